@@ -1,0 +1,4 @@
+pub mod Choice
+pub mod Size
+pub mod Search
+pub mod Bits
