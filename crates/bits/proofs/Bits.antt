@@ -2,14 +2,14 @@
 use mathlib.Core.Path.{_≡_, refl, sym, ap, ap₂, _∙_}
 use mathlib.Core.Bool.{Bool, true, false, not, _&&_, _||_, Bool·beq}
 use Prim.Native.Nat.{ℕ, zero, suc, _+_, _-_, _*_, _/_, _%_, _^_, _≤_, _<_, min}
-use native.Mathlib.Nat.{add-zero, zero-add, add-suc, suc-add, pow-suc, pow-zero, pow-succ', div-div-eq-div-mul, div-one, zero-div, mod-eq-of-lt, mod-one, mod-lt}
+use native.Mathlib.Nat.{add-zero, add-suc, suc-add, pow-suc, pow-zero, pow-succ', div-div-eq-div-mul, div-one, zero-div, mod-eq-of-lt, mod-one, mod-lt}
 use native.Mathlib.Numerals.{add-one}
 use native.Mathlib.Decide.{decLt}
 use native.Mathlib.Omega.{arith}
-use lib.Dec.{ltb, eqb}
+use lib.Dec.{eqb}
 use lib.Bits.{bitAnd, bitOr, bitXor, and-block, or-block, xor-block}
 use lib.Pow.{pow-pos, mod-pow-add, shr-shr, ones-split, ones-lt, high}
-use borrow.Author.Tests.{lt-ltb, le-ltb}
+use borrow.Author.Tests.{lt-ltb, le-ltb, eq-eqb, ne-eqb}
 use Rattle.bits.specs.Choice.{digit}
 use Rattle.bits.specs.Bits.{testBit, number, below}
 use Rattle.bits.proofs.Searches.{digit-lt}
@@ -148,3 +148,29 @@ pub ones-shifted : (k n : ℕ) → n ≤ k → (2 ^ k - 1) / 2 ^ (k - n) ≡ 2 ^
 ones-shifted k n h =
     let e : k ≡ n + (k - n) = omega arith in
     ap (λ (x : ℕ). (2 ^ x - 1) / 2 ^ (k - n)) e ∙ ap (λ (x : ℕ). x / 2 ^ (k - n)) (ones-split n (k - n)) ∙ high (2 ^ n - 1) (k - n) (ones-lt (k - n))
+
+-- ---- the bits that are not set
+
+number-ones : (at n : ℕ) → number (λ b. true) at n ≡ 2 ^ n - 1
+unfolding number
+number-ones at zero = refl
+number-ones at (suc n) = rw (number-ones (suc at) n, pow-suc 2 n) (omega (arith, pow-pos n))
+
+differs-true : (b : Bool) → not b ≡ not (Bool·beq b true)
+differs-true true = refl
+differs-true false = refl
+
+pub number-not : (f : ℕ → Bool) (at n : ℕ) → number (λ i. not (f i)) at n ≡ bitXor (number f at n) (2 ^ n - 1)
+number-not f at n =
+    number-cong (λ i. not (f i)) (λ i. not (Bool·beq (f i) true)) at at n (λ i l. differs-true (f (at + i)))
+    ∙ number-xor f (λ b. true) at n ∙ ap (bitXor (number f at n)) (number-ones at n)
+
+-- ---- one bit alone
+
+pub number-only : (at n i : ℕ) → i < n → number (λ b. eqb b (at + i)) at n ≡ 2 ^ i
+unfolding number
+number-only at zero i h = absurd (omega arith)
+number-only at (suc n) zero h =
+    rw (add-zero at, number-none (λ b. eqb b at) (suc at) n (λ j l. ne-eqb (suc at + j) at (omega arith)), eq-eqb at at refl)
+number-only at (suc n) (suc i) h =
+    rw (add-suc at i, ← suc-add at i, number-only (suc at) n i (omega arith), ne-eqb at (suc at + i) (omega arith), pow-suc 2 i) (omega arith)

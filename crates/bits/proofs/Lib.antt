@@ -2,3 +2,4 @@
 pub mod Searches
 pub mod Bits
 pub mod Counts
+pub mod Sizes

@@ -2,10 +2,10 @@
 -- Assumes nothing.
 use mathlib.Core.Path.{_≡_, refl, sym, ap, ap₂, _∙_}
 use mathlib.Core.Bool.{Bool, true, false, _||_}
-use mathlib.Core.Logic.{_⊎_, inl, inr, ⊎-elim}
+use mathlib.Core.Logic.{⊎-elim}
 use Prim.Native.Nat.{ℕ, zero, suc, _+_, _-_, _≤_, _<_, zero-le}
 use native.Mathlib.Nat.{add-zero, add-suc, eq-or-lt-of-le, le-refl}
-use native.Mathlib.Decide.{decLt, ℕ-discrete}
+use native.Mathlib.Decide.{decLt}
 use native.Mathlib.Numerals.{add-one}
 use native.Mathlib.Omega.{arith}
 use Rattle.bits.specs.Choice.{pick, digit}
@@ -119,16 +119,16 @@ last-found f (suc n) = go (f n) refl (last-found f n)
       hit = λ e h. r .hit e h;
     })
 
-last-le : (f : ℕ → Bool) (n r q : ℕ) → Last f n r → Last f n q → r ≤ q
-last-le f n zero q a b = zero-le
-last-le f n (suc e) q a b =
+last-order : (f : ℕ → Bool) (n r q : ℕ) → Last f n r → Last f n q → r ≤ q
+last-order f n zero q a b = zero-le
+last-order f n (suc e) q a b =
     elim (decLt e q) [
       | yes k ↦ k
       | no k ↦ never (a .hit e refl) (b .none e (omega arith) (omega (arith, a .upto)))
     ]
 
 pub last-is : (f : ℕ → Bool) (n r : ℕ) → Last f n r → r ≡ afterLast f n
-last-is f n r a = let b = last-found f n in omega (arith, last-le f n r (afterLast f n) a b, last-le f n (afterLast f n) r b a)
+last-is f n r a = let b = last-found f n in omega (arith, last-order f n r (afterLast f n) a b, last-order f n (afterLast f n) r b a)
 
 pub last-cong : (f g : ℕ → Bool) (n : ℕ) → ((e : ℕ) → e < n → f e ≡ g e) → afterLast f n ≡ afterLast g n
 unfolding afterLast
@@ -161,15 +161,15 @@ scan-found f (suc k) next = go (f next) refl (scan-found f k (suc next))
 pub first-found : (f : ℕ → Bool) (start n : ℕ) → start ≤ n → First f start n (firstFrom f start n)
 first-found f start n h = let e : start + (n - start) ≡ n = omega arith in rw e at (scan-found f (n - start) start)
 
-first-le : {f : ℕ → Bool} {start n r q : ℕ} → First f start n r → First f start n q → r ≤ q
-first-le {f} {start} {n} {r} {q} a b =
+first-order : {f : ℕ → Bool} {start n r q : ℕ} → First f start n r → First f start n q → r ≤ q
+first-order {f} {start} {n} {r} {q} a b =
     elim (decLt q r) [
       | yes k ↦ never (b .hit (omega (arith, a .upto))) (a .none q (b .from) k)
       | no k ↦ omega arith
     ]
 
 pub first-is : (f : ℕ → Bool) (start n r : ℕ) → First f start n r → r ≡ firstFrom f start n
-first-is f start n r a = let b = first-found f start n (omega (arith, a .from, a .upto)) in omega (arith, first-le a b, first-le b a)
+first-is f start n r a = let b = first-found f start n (omega (arith, a .from, a .upto)) in omega (arith, first-order a b, first-order b a)
 
 pub first-cong : (f g : ℕ → Bool) (start n : ℕ) → start ≤ n → ((e : ℕ) → start ≤ e → e < n → f e ≡ g e) → firstFrom f start n ≡ firstFrom g start n
 first-cong f g start n l h =
@@ -210,3 +210,9 @@ first-low f n =
     let whole : suc n - 0 ≡ suc n = omega arith in
     let rest : n - 0 ≡ n = omega arith in
     rw (whole, rest) (ap (pick (f 0) 0) (scan-suc f n 0))
+
+pub first-le : (f : ℕ → Bool) (n : ℕ) → firstFrom f 0 n ≤ n
+first-le f n = first-found f 0 n zero-le .upto
+
+pub last-le : (f : ℕ → Bool) (n : ℕ) → afterLast f n ≤ n
+last-le f n = last-found f n .upto

@@ -1,0 +1,5 @@
+-- Laws of predicates. Callers' proofs cite them.
+pub mod Words
+pub mod WordSearch
+pub mod ElementBits
+pub mod Flagging

@@ -1,0 +1,42 @@
+use native.Mathlib.Nat.{le-trans, mul-le-mul-left}
+-- `Predicate::is_active` meets its contract: past element 255 there is no bit. Assumes nothing.
+use Rattle.predicates.proofs.Words.{words-of, bit-past}
+use Rattle.predicates.specs.Predicate.{bitAt, active}
+use Rattle.bits.proofs.Sizes.{shift-lt, shifted}
+use Rattle.bits.specs.Size.{shift}
+use lib.Pow.{pow-pos}
+use native.Mathlib.Omega.{arith}
+use native.Mathlib.Nat.{le-trans}
+use Prim.Native.Nat.{ℕ, _*_, _^_, _%_}
+use mathlib.Core.Path.{ap, _∙_, sym}
+use borrow.Author.Needs.{needs}
+use Rattle.predicates.proofs.Predicate.is_active.Statement.{statement}
+use Rattle.predicates.proofs.Predicate.is_active.Tie as tie
+
+returns : tie.Need-returns
+unfolding active
+returns c =
+    let k = shift (c .before .args .size) in
+    let e = c .before .args .e in
+    sym (bit-past (c .before .args .self) (search (needs, words-of)) (e * 2 ^ k) (le-trans (omega arith) (mul-le-mul-left e (pow-pos k))))
+
+shift-requires : tie.Need-shift-requires
+shift-requires c κs = search needs
+
+shl-bit : tie.Need-shl-bit
+shl-bit c = omega (arith, shift-lt (c .before .before .args .size))
+
+bit-requires : tie.Need-bit-requires
+bit-requires c κs = search needs
+
+returns-2 : tie.Need-returns-2
+unfolding active
+returns-2 c =
+    let k = shift (c .before .before .before .args .size) in
+    let e = c .before .before .before .args .e in
+    c .bit .ensures
+    ∙ ap (bitAt (c .before .before .before .args .self))
+    (ap (λ (x : ℕ). (e * 2 ^ x) % 2 ^ 64) (c .before .shift .ensures) ∙ shifted e k (omega arith) (shift-lt (c .before .before .before .args .size)))
+
+pub is-active-spec : {M : Type 1} → statement M
+is-active-spec = tie.close (tie.spec returns shift-requires shl-bit bit-requires returns-2)

@@ -1,0 +1,19 @@
+-- `Predicate::live` meets its contract. Assumes nothing.
+use Rattle.predicates.specs.Predicate.{spanOf}
+use Rattle.bits.specs.Size.{shift}
+use mathlib.Core.Path.{ap, _∙_}
+use borrow.Author.Needs.{needs}
+use Rattle.predicates.proofs.Predicate.live.Statement.{statement}
+use Rattle.predicates.proofs.Predicate.live.Tie as tie
+
+elements-requires : tie.Need-elements-requires
+elements-requires c κs = search needs
+
+first-requires : tie.Need-first-requires
+first-requires c κs = search needs
+
+returns : tie.Need-returns
+returns c = c .first .ensures ∙ ap (spanOf (shift (c .before .before .args .size)) 0) (c .before .elements .ensures)
+
+pub live-spec : {M : Type 1} → statement M
+live-spec = tie.close (tie.spec elements-requires first-requires returns)

@@ -1,0 +1,195 @@
+-- Searches among a predicate's bits, a word at a time. Assumes nothing.
+use mathlib.Core.Path.{_≡_, sym, ap, _∙_}
+use mathlib.Core.Bool.{Bool, true, false, not, _&&_}
+use mathlib.Core.Logic.{_⊎_, inl, inr}
+use Prim.Native.Nat.{ℕ, suc, _+_, _-_, _*_, _/_, _%_, _^_, _≤_, _<_}
+use native.Mathlib.Nat.{mod-eq-of-lt}
+use native.Mathlib.Decide.{decLt, ℕ-discrete}
+use native.Mathlib.Omega.{arith}
+use lib.Bits.{bitOr, or-add-and, and-le-l, and-le-r}
+use lib.Dec.{ltb, eqb}
+use lib.ListN.{List·getD-eq-default}
+use borrow.Author.Tests.{lt-ltb, eq-eqb, ne-eqb}
+use Rattle.bits.specs.Bits.{testBit, number}
+use Rattle.bits.specs.Search.{count, some, firstFrom, afterLast}
+use Rattle.bits.proofs.Bits.{number-none, number-whole}
+use Rattle.bits.proofs.Searches.{count-add, count-cong, some-yes, some-no, First, first-found, first-is, Last, last-found, last-is, last-le}
+use Rattle.predicates.specs.declared.Predicate.{Predicate}
+use Rattle.predicates.specs.Predicate.{bitAt}
+use Rattle.predicates.specs.PredTest.{atLowest, atHighest}
+use Rattle.predicates.proofs.Words.{Words, word, bit-in-word, bit-of-none}
+
+-- ---- words that are 0
+
+-- the words below q, and those above it
+abbrev pub Below : Predicate → ℕ → Type 0
+Below p q = (j : ℕ) → j < q → word p j ≡ 0
+
+abbrev pub Above : Predicate → ℕ → Type 0
+Above p q = (j : ℕ) → q < j → word p j ≡ 0
+
+pub below-zero : (p : Predicate) → Below p 0
+below-zero p j h = absurd (omega arith)
+
+pub below-suc : (p : Predicate) (q : ℕ) → Below p q → word p q ≡ 0 → Below p (suc q)
+below-suc p q h e j l = elim (decLt j q) [ yes k ↦ h j k | no k ↦ let s : j ≡ q = omega arith in ap (word p) s ∙ e ]
+
+pub above-three : (p : Predicate) → Words p → Above p 3
+above-three p ok j h = List·getD-eq-default (p .words) 0 (omega (arith, ok .four))
+
+pub above-pred : (p : Predicate) (q : ℕ) → Above p (suc q) → word p (suc q) ≡ 0 → Above p q
+above-pred p q h e j l = elim (decLt (suc q) j) [ yes k ↦ h j k | no k ↦ let s : j ≡ suc q = omega arith in ap (word p) s ∙ e ]
+
+-- a word with no bit set is 0
+zero-word : (w : ℕ) → w < 2 ^ 64 → ((i : ℕ) → i < 64 → testBit w i ≡ false) → w ≡ 0
+zero-word w h z = sym (number-whole w 64 h) ∙ number-none (testBit w) 0 64 (λ i l. ap (testBit w) (omega arith) ∙ z i l)
+
+pub first-in : (w : ℕ) → w < 2 ^ 64 → (w ≡ 0 → ⊥) → firstFrom (testBit w) 0 64 < 64
+first-in w h n =
+    let r = first-found (testBit w) 0 64 (omega arith) in
+    elim (decLt (firstFrom (testBit w) 0 64) 64) [ yes k ↦ k | no k ↦ absurd (n (zero-word w h (λ i l. r .none i (omega arith) (omega arith)))) ]
+
+pub last-in : (w : ℕ) → w < 2 ^ 64 → (w ≡ 0 → ⊥) → 0 < afterLast (testBit w) 64
+last-in w h n =
+    let r = last-found (testBit w) 64 in
+    elim (decLt 0 (afterLast (testBit w) 64)) [ yes k ↦ k | no k ↦ absurd (n (zero-word w h (λ i l. r .none i (omega arith) l))) ]
+
+-- ---- the lowest bit, and the highest
+
+-- word q, split off a bit's number
+at-word : (p : Predicate) (q b : ℕ) → q * 64 ≤ b → b < q * 64 + 64 → bitAt p b ≡ testBit (word p q) (b - q * 64)
+at-word p q b h l = ap (bitAt p) (omega arith) ∙ bit-in-word p q (b - q * 64) (omega arith)
+
+pub lowest-in : (p : Predicate) (q x : ℕ) → q < 4 → Below p q → (firstFrom (testBit (word p q)) 0 64 < 64) ⊎ (q ≡ 3)
+    → x ≡ q * 64 + firstFrom (testBit (word p q)) 0 64 → x ≡ firstFrom (bitAt p) 0 256
+lowest-in p q x h z side e =
+    let r = first-found (testBit (word p q)) 0 64 (omega arith) in
+    first-is (bitAt p) 0 256 x (record {
+      from = omega arith;
+      upto = omega (arith, r .upto);
+      none = λ b l m. elim (decLt b (q * 64)) [
+        | yes k ↦ bit-of-none p b (z (b / 64) (omega arith))
+        | no k ↦ at-word p q b (omega arith) (omega (arith, r .upto)) ∙ r .none (b - q * 64) (omega arith) (omega arith)
+      ];
+      hit = λ l. hit side r l;
+    })
+  where
+    hit : (firstFrom (testBit (word p q)) 0 64 < 64) ⊎ (q ≡ 3) → First (testBit (word p q)) 0 64 (firstFrom (testBit (word p q)) 0 64) → x < 256 → bitAt p x ≡ true
+    hit (inl k) r l = ap (bitAt p) e ∙ bit-in-word p q (firstFrom (testBit (word p q)) 0 64) k ∙ r .hit k
+    hit (inr k) r l = ap (bitAt p) e ∙ bit-in-word p q (firstFrom (testBit (word p q)) 0 64) (omega arith) ∙ r .hit (omega arith)
+
+pub highest-in : (p : Predicate) (q x : ℕ) → q < 4 → Above p q → (0 < afterLast (testBit (word p q)) 64) ⊎ (q ≡ 0)
+    → x ≡ q * 64 + afterLast (testBit (word p q)) 64 → x ≡ afterLast (bitAt p) 256
+highest-in p q x h z side e =
+    let r = last-found (testBit (word p q)) 64 in
+    last-is (bitAt p) 256 x (record {
+      upto = omega (arith, r .upto);
+      none = λ b l m. elim (decLt b (q * 64 + 64)) [
+        | yes k ↦ at-word p q b (omega arith) k ∙ r .none (b - q * 64) (omega arith) (omega arith)
+        | no k ↦ bit-of-none p b (z (b / 64) (omega arith))
+      ];
+      hit = λ b s. hit side r b s;
+    })
+  where
+    top : Last (testBit (word p q)) 64 (afterLast (testBit (word p q)) 64) → (b : ℕ) → x ≡ suc b → 0 < afterLast (testBit (word p q)) 64 → bitAt p b ≡ true
+    top r b s k = at-word p q b (omega arith) (omega (arith, r .upto)) ∙ r .hit (b - q * 64) (omega arith)
+
+    hit : (0 < afterLast (testBit (word p q)) 64) ⊎ (q ≡ 0) → Last (testBit (word p q)) 64 (afterLast (testBit (word p q)) 64) → (b : ℕ) → x ≡ suc b → bitAt p b ≡ true
+    hit (inl k) r b s = top r b s k
+    hit (inr k) r b s = top r b s (omega arith)
+
+-- ---- the count
+
+pub count-words : (p : Predicate) (a b c d : ℕ) → a ≡ count (testBit (word p 0)) 64 → b ≡ count (testBit (word p 1)) 64
+    → c ≡ count (testBit (word p 2)) 64 → d ≡ count (testBit (word p 3)) 64 → a + b + c + d ≡ count (bitAt p) 256
+count-words p a b c d ha hb hc hd =
+    let one : (q : ℕ) → count (λ i. bitAt p (q * 64 + i)) 64 ≡ count (testBit (word p q)) 64 = λ q. count-cong _ _ 64 (λ i l. bit-in-word p q i l) in
+    let s1 : count (bitAt p) 256 ≡ count (bitAt p) 192 + count (λ i. bitAt p (192 + i)) 64 = count-add (bitAt p) 192 64 in
+    let s2 : count (bitAt p) 192 ≡ count (bitAt p) 128 + count (λ i. bitAt p (128 + i)) 64 = count-add (bitAt p) 128 64 in
+    let s3 : count (bitAt p) 128 ≡ count (bitAt p) 64 + count (λ i. bitAt p (64 + i)) 64 = count-add (bitAt p) 64 64 in
+    let s4 : count (bitAt p) 64 ≡ count (λ i. bitAt p (0 + i)) 64 = count-cong _ _ 64 (λ i l. ap (bitAt p) (omega arith)) in
+    omega (arith, one 0, one 1, one 2, one 3)
+
+-- ---- whether there is a bit
+
+or-none : (a b : ℕ) → bitOr a b ≡ 0 → (a ≡ 0) × (b ≡ 0)
+or-none a b h = (omega (arith, or-add-and a b, and-le-l a b, and-le-r a b), omega (arith, or-add-and a b, and-le-l a b, and-le-r a b))
+
+some-bit : (p : Predicate) → Words p → (q : ℕ) → q < 4 → (word p q ≡ 0 → ⊥) → not (some (bitAt p) 256) ≡ false
+some-bit p ok q h n =
+    let k = first-in (word p q) (ok .fit q) n in
+    ap not (some-yes (bitAt p) 256 (q * 64 + firstFrom (testBit (word p q)) 0 64) (omega arith)
+    (bit-in-word p q (firstFrom (testBit (word p q)) 0 64) k ∙ first-found (testBit (word p q)) 0 64 (omega arith) .hit k))
+
+four-none : (p : Predicate) → word p 0 ≡ 0 → word p 1 ≡ 0 → word p 2 ≡ 0 → word p 3 ≡ 0 → Below p 4
+four-none p a b c d = below-suc p 3 (below-suc p 2 (below-suc p 1 (below-suc p 0 (below-zero p) a) b) c) d
+
+pub empty-words : (p : Predicate) → Words p → eqb (bitOr (bitOr (bitOr (word p 0) (word p 1)) (word p 2)) (word p 3)) 0 ≡ not (some (bitAt p) 256)
+empty-words p ok =
+    elim (ℕ-discrete (bitOr (bitOr (bitOr (word p 0) (word p 1)) (word p 2)) (word p 3)) 0) [
+      | yes e ↦
+          let (e₂, d) = or-none (bitOr (bitOr (word p 0) (word p 1)) (word p 2)) (word p 3) e in
+          let (e₁, c) = or-none (bitOr (word p 0) (word p 1)) (word p 2) e₂ in
+          let (a, b) = or-none (word p 0) (word p 1) e₁ in
+          eq-eqb _ 0 e ∙ sym (ap not (some-no (bitAt p) 256 (λ i l. bit-of-none p i (four-none p a b c d (i / 64) (omega arith)))))
+      | no n ↦ ne-eqb _ 0 n ∙ sym (search-word n)
+    ]
+  where
+    search-word : (bitOr (bitOr (bitOr (word p 0) (word p 1)) (word p 2)) (word p 3) ≡ 0 → ⊥) → not (some (bitAt p) 256) ≡ false
+    search-word n =
+        elim (ℕ-discrete (word p 0) 0) [
+          | no k ↦ some-bit p ok 0 (omega arith) k
+          | yes a ↦ elim (ℕ-discrete (word p 1) 0) [
+            | no k ↦ some-bit p ok 1 (omega arith) k
+            | yes b ↦ elim (ℕ-discrete (word p 2) 0) [
+              | no k ↦ some-bit p ok 2 (omega arith) k
+              | yes c ↦ elim (ℕ-discrete (word p 3) 0) [
+                | no k ↦ some-bit p ok 3 (omega arith) k
+                | yes d ↦ absurd (n (rw (a, b, c, d)))
+              ]
+            ]
+          ]
+        ]
+
+-- ---- PredTest's ends
+
+pub lowest-test : (m r : Predicate) → Words m → (q : ℕ) → q < 4 → Below m q → (word m q ≡ 0 → ⊥) → (x : Bool) (b : ℕ) → b ≡ firstFrom (testBit (word m q)) 0 64
+    → x ≡ testBit (word r q) (b % 64) → x ≡ atLowest (bitAt m) (bitAt r) 256
+unfolding atLowest
+lowest-test m r ok q h z n x b eb ex =
+    let k : b < 64 = rw (← eb) at (first-in (word m q) (ok .fit q) n) in
+    let low : q * 64 + b ≡ firstFrom (bitAt m) 0 256 = lowest-in m q (q * 64 + b) h z (inl (first-in (word m q) (ok .fit q) n)) (ap (λ (y : ℕ). q * 64 + y) eb) in
+    ex ∙ ap (testBit (word r q)) (mod-eq-of-lt k) ∙ sym (bit-in-word r q b k)
+    ∙ sym (ap (λ (t : Bool). t && bitAt r (q * 64 + b)) (lt-ltb (q * 64 + b) 256 (omega arith)))
+    ∙ ap (λ (y : ℕ). ltb y 256 && bitAt r y) low
+
+pub highest-test : (m r : Predicate) → Words m → (q : ℕ) → q < 4 → Above m q → (word m q ≡ 0 → ⊥) → (x : Bool) (b : ℕ) → b ≡ afterLast (testBit (word m q)) 64
+    → x ≡ testBit (word r q) ((b + 63) % 64) → x ≡ atHighest (bitAt m) (bitAt r) 256
+unfolding atHighest
+highest-test m r ok q h z n x b eb ex =
+    let k : 0 < b = rw (← eb) at (last-in (word m q) (ok .fit q) n) in
+    let l : b ≤ 64 = rw (← eb) at (last-le (testBit (word m q)) 64) in
+    let top : q * 64 + b ≡ afterLast (bitAt m) 256 = highest-in m q (q * 64 + b) h z (inl (last-in (word m q) (ok .fit q) n)) (ap (λ (y : ℕ). q * 64 + y) eb) in
+    let place : (b + 63) % 64 ≡ b - 1 = omega arith in
+    ex ∙ ap (testBit (word r q)) place ∙ sym (bit-in-word r q (b - 1) (omega arith)) ∙ ap (bitAt r) (omega arith)
+    ∙ sym (ap (λ (t : Bool). t && bitAt r (q * 64 + b - 1)) (lt-ltb 0 (q * 64 + b) (omega arith)))
+    ∙ ap (λ (y : ℕ). ltb 0 y && bitAt r (y - 1)) top
+
+pub lowest-none : (m r : Predicate) → Below m 4 → false ≡ atLowest (bitAt m) (bitAt r) 256
+unfolding atLowest
+lowest-none m r z =
+    ap (λ (y : ℕ). ltb y 256 && bitAt r y) (first-is (bitAt m) 0 256 256 (record {
+      from = omega arith;
+      upto = omega arith;
+      none = λ b l h. bit-of-none m b (z (b / 64) (omega arith));
+      hit = λ h. absurd (omega arith);
+    }))
+
+pub highest-none : (m r : Predicate) → Above m 0 → word m 0 ≡ 0 → false ≡ atHighest (bitAt m) (bitAt r) 256
+unfolding atHighest
+highest-none m r z e =
+    ap (λ (y : ℕ). ltb 0 y && bitAt r (y - 1)) (last-is (bitAt m) 256 0 (record {
+      upto = omega arith;
+      none = λ b l h. elim (decLt 0 (b / 64)) [ yes k ↦ bit-of-none m b (z (b / 64) k) | no k ↦ let s : b / 64 ≡ 0 = omega arith in bit-of-none m b (ap (word m) s ∙ e) ];
+      hit = λ b h. absurd (omega arith);
+    }))

@@ -1,0 +1,45 @@
+use Rattle.predicates.specs.Predicate.{bitAt}
+use Rattle.predicates.specs.declared.Predicate.{Predicate}
+use Rattle.bits.specs.Search.{some}
+use mathlib.Core.Bool.{not}
+-- `pred_test` meets its contract. Assumes nothing.
+use Rattle.predicates.proofs.Flagging.{tests}
+use Rattle.predicates.specs.PredTest.{nzcv}
+use mathlib.Core.Path.{ap, _∙_}
+use borrow.Author.Needs.{needs}
+use Rattle.predicates.proofs.pred_test.Statement.{statement}
+use Rattle.predicates.proofs.pred_test.Tie as tie
+
+at-lowest-requires : tie.Need-at-lowest-requires
+at-lowest-requires c κs = search needs
+
+and-requires : tie.Need-and-requires
+and-requires c κs = search needs
+
+is-empty-requires : tie.Need-is-empty-requires
+is-empty-requires c κs = search needs
+
+at-highest-requires : tie.Need-at-highest-requires
+at-highest-requires c κs = search needs
+
+nzcv-requires : tie.Need-nzcv-requires
+nzcv-requires c κs = search needs
+
+returns : tie.Need-returns
+returns c =
+    let m = c .before .before .before .before .before .args .mask in
+    let r = c .before .before .before .before .before .args .result in
+    c .nzcv .ensures
+    ∙ ap nzcv (tests m r _ _ _ (c .before .before .before .before .at-lowest .ensures)
+    (c .before .before .is-empty .ensures ∙ ap (λ (p : Predicate). not (some (bitAt p) 256)) (c .before .before .before .and .ensures)) (c .before .at-highest .ensures))
+
+pub pred-test-spec : {M : Type 1} → statement M
+pred-test-spec =
+    tie.close
+    (tie.spec
+    at-lowest-requires
+    and-requires
+    is-empty-requires
+    at-highest-requires
+    nzcv-requires
+    returns)
