@@ -1,17 +1,17 @@
 -- Laws of numbers made of bits. A word operation is the Boolean operation at each bit: one law over the operation. Assumes nothing.
-use mathlib.Core.Path.{_≡_, refl, sym, ap, ap₂, _∙_}
 use mathlib.Core.Bool.{Bool, true, false, not, _&&_, _||_, Bool·beq}
+use mathlib.Core.Path.{_≡_, refl, sym, ap, ap₂, _∙_}
 use Prim.Native.Nat.{ℕ, zero, suc, _+_, _-_, _*_, _/_, _%_, _^_, _≤_, _<_, min}
+use native.Mathlib.Decide.{decLt}
 use native.Mathlib.Nat.{add-zero, add-suc, suc-add, pow-suc, pow-zero, pow-succ', div-div-eq-div-mul, div-one, zero-div, mod-eq-of-lt, mod-one, mod-lt}
 use native.Mathlib.Numerals.{add-one}
-use native.Mathlib.Decide.{decLt}
 use native.Mathlib.Omega.{arith}
-use lib.Dec.{eqb}
 use lib.Bits.{bitAnd, bitOr, bitXor, and-block, or-block, xor-block}
+use lib.Dec.{eqb}
 use lib.Pow.{pow-pos, mod-pow-add, shr-shr, ones-split, ones-lt, high}
 use borrow.Author.Tests.{lt-ltb, le-ltb, eq-eqb, ne-eqb}
-use Rattle.bits.specs.Choice.{digit}
 use Rattle.bits.specs.Bits.{testBit, number, below}
+use Rattle.bits.specs.Choice.{digit}
 use Rattle.bits.proofs.Searches.{digit-lt}
 
 digit-is : (b : Bool) → eqb (digit b) 1 ≡ b

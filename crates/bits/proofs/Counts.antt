@@ -1,6 +1,6 @@
 -- The processor's counts of a word's bits are searches among its bits. Assumes nothing.
-use mathlib.Core.Path.{_≡_, refl, sym, ap, ap₂, _∙_}
 use mathlib.Core.Bool.{Bool, true, false}
+use mathlib.Core.Path.{_≡_, refl, sym, ap, ap₂, _∙_}
 use Prim.Native.Nat.{ℕ, zero, suc, _+_, _-_, _/_, _^_, _≤_, _<_}
 use native.Mathlib.Nat.{pow-suc, pow-succ', div-eq-of-lt, div-lt-iff-lt-mul, le-div-iff-mul-le, lt-of-lt-of-le}
 use native.Mathlib.Numerals.{add-one}
@@ -8,8 +8,8 @@ use native.Mathlib.Omega.{arith}
 use lib.Arith.{lt-one}
 use lib.Count.{ones, ones-step, ones-ones, under, trailingZeros, leadingZeros, leading-length}
 use lib.Pow.{pow-mono, pow-pos, shr-lt}
-use Rattle.bits.specs.Choice.{pick, digit}
 use Rattle.bits.specs.Bits.{testBit}
+use Rattle.bits.specs.Choice.{pick, digit}
 use Rattle.bits.specs.Search.{count, firstFrom, afterLast, scan}
 use Rattle.bits.proofs.Bits.{testBit-suc, testBit-low}
 use Rattle.bits.proofs.Searches.{count-low, count-cong, first-low, first-cong, last-is}

@@ -1,11 +1,11 @@
 -- Laws of the searches among the numbers below a bound. What `firstFrom` and `afterLast` find is stated once, as a record, and nothing else has it.
 -- Assumes nothing.
-use mathlib.Core.Path.{_≡_, refl, sym, ap, ap₂, _∙_}
 use mathlib.Core.Bool.{Bool, true, false, _||_}
 use mathlib.Core.Logic.{⊎-elim}
+use mathlib.Core.Path.{_≡_, refl, sym, ap, ap₂, _∙_}
 use Prim.Native.Nat.{ℕ, zero, suc, _+_, _-_, _≤_, _<_, zero-le}
-use native.Mathlib.Nat.{add-zero, add-suc, eq-or-lt-of-le, le-refl}
 use native.Mathlib.Decide.{decLt}
+use native.Mathlib.Nat.{add-zero, add-suc, eq-or-lt-of-le, le-refl}
 use native.Mathlib.Numerals.{add-one}
 use native.Mathlib.Omega.{arith}
 use Rattle.bits.specs.Choice.{pick, digit}
@@ -88,6 +88,16 @@ some-none f zero h e l = absurd (omega arith)
 some-none f (suc n) h e l =
     let k = or-false (f n) (some f n) h in
     elim (decLt e n) [ yes m ↦ some-none f n (k .1) e m | no m ↦ let s : n ≡ e = omega arith in rw s at (k .0) ]
+
+-- where some number passes, here is one
+pub some-found : (f : ℕ → Bool) (n : ℕ) → some f n ≡ true → (e : ℕ) × (e < n) × (f e ≡ true)
+unfolding some
+some-found f zero h = never h refl
+some-found f (suc n) h = go (f n) refl (some-found f n)
+  where
+    go : (b : Bool) → f n ≡ b → (some f n ≡ true → (e : ℕ) × (e < n) × (f e ≡ true)) → (e : ℕ) × (e < suc n) × (f e ≡ true)
+    go true t more = (n, omega arith, t)
+    go false t more = let (e, l, s) = more (rw t at h) in (e, omega arith, s)
 
 pub some-cong : (f g : ℕ → Bool) (n : ℕ) → ((e : ℕ) → e < n → f e ≡ g e) → some f n ≡ some g n
 unfolding some

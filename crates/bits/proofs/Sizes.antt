@@ -1,14 +1,14 @@
 -- Laws of the sizes, and of elements of 2 ^ k bits in words of 64. Assumes nothing.
 use mathlib.Core.Path.{_≡_, sym, ap, _∙_}
 use Prim.Native.Nat.{ℕ, _+_, _-_, _*_, _/_, _%_, _^_, _≤_, _<_}
-use native.Mathlib.Nat.{mul-assoc, mul-add-mod-self-right}
+use native.Mathlib.Nat.{one-mul, mul-assoc, mul-add-mod-self-right}
 use native.Mathlib.Omega.{arith}
 use lib.Dec.{eqb}
-use lib.Pow.{pow-add, shl-exact}
+use lib.Pow.{pow-add, pow-mono, shl-exact}
 use Rattle.bits.specs.declared.Size.{Size}
 use Rattle.bits.specs.declared.Size.the-variants.{B, H, S, D}
-use Rattle.bits.specs.Size.{shift}
 use Rattle.bits.specs.Bits.{elementBit}
+use Rattle.bits.specs.Size.{shift}
 
 pub shift-lt : (size : Size) → shift size < 4
 shift-lt B = omega arith
@@ -31,3 +31,9 @@ element-again k at i h e =
 -- a shift left by a size loses nothing of a number up to 256
 pub shifted : (n k : ℕ) → n ≤ 256 → k < 4 → (n * 2 ^ k) % 2 ^ 64 ≡ n * 2 ^ k
 shifted n k h l = shl-exact 9 k 64 (omega arith) (omega arith)
+
+pub one-shifted : (k : ℕ) → k < 4 → (1 * 2 ^ k) % 2 ^ 64 ≡ 2 ^ k
+one-shifted k l = shifted 1 k (omega arith) l ∙ one-mul (2 ^ k)
+
+pub power-le : (k : ℕ) → k < 4 → 2 ^ k ≤ 8
+power-le k l = pow-mono {i = k} {j = 3} (omega arith)

@@ -1,9 +1,9 @@
 -- Elements and the bits that stand for them, over elements of 2 ^ k bits. Assumes nothing.
-use mathlib.Core.Path.{_≡_, refl, sym, ap, ap₂, _∙_}
 use mathlib.Core.Bool.{Bool, true, false, not, _&&_, and-true, and-false}
+use mathlib.Core.Path.{_≡_, refl, sym, ap, ap₂, _∙_}
 use Prim.Native.Nat.{ℕ, _+_, _*_, _/_, _%_, _^_, _≤_, _<_, min}
-use native.Mathlib.Nat.{mul-mod-left, div-add-mod', div-lt-iff-lt-mul, div-le-self, div-one, mod-one, add-zero, zero-add, mul-lt-mul-of-pos-right, lt-of-lt-of-le}
 use native.Mathlib.Decide.{decLt}
+use native.Mathlib.Nat.{mul-mod-left, div-add-mod', div-lt-iff-lt-mul, div-le-self, div-one, mod-one, add-zero, zero-add, mul-lt-mul-of-pos-right, lt-of-lt-of-le}
 use native.Mathlib.Omega.{arith}
 use lib.Bits.{bitAnd}
 use lib.Dec.{ltb, leb, eqb, leb·zero}

@@ -1,6 +1,6 @@
 -- Laws of flags as numbers, and of PredTest's parts. Assumes nothing.
-use mathlib.Core.Path.{_≡_, refl, ap, _∙_}
 use mathlib.Core.Bool.{Bool, true, false, not, _&&_}
+use mathlib.Core.Path.{_≡_, refl, ap, _∙_}
 use Prim.Native.Nat.{ℕ, _+_, _*_}
 use native.Mathlib.Omega.{arith}
 use Rattle.bits.specs.Bits.{testBit}
@@ -9,8 +9,8 @@ use Rattle.bits.specs.Search.{some}
 use Rattle.bits.proofs.Searches.{some-cong}
 use Rattle.predicates.specs.declared.Flags.{Flags}
 use Rattle.predicates.specs.declared.Predicate.{Predicate}
-use Rattle.predicates.specs.Predicate.{bitAt, pack}
 use Rattle.predicates.specs.PredTest.{atLowest, atHighest, predTest, nzcv, flagsOf}
+use Rattle.predicates.specs.Predicate.{bitAt, pack}
 use Rattle.predicates.proofs.Words.{pack-bit}
 
 -- flags read back from their number

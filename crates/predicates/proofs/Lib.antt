@@ -3,3 +3,5 @@ pub mod Words
 pub mod WordSearch
 pub mod ElementBits
 pub mod Flagging
+pub mod Live
+pub mod Spans

@@ -1,10 +1,10 @@
 -- Searches among a predicate's bits, a word at a time. Assumes nothing.
-use mathlib.Core.Path.{_≡_, sym, ap, _∙_}
 use mathlib.Core.Bool.{Bool, true, false, not, _&&_}
 use mathlib.Core.Logic.{_⊎_, inl, inr}
+use mathlib.Core.Path.{_≡_, sym, ap, _∙_}
 use Prim.Native.Nat.{ℕ, suc, _+_, _-_, _*_, _/_, _%_, _^_, _≤_, _<_}
-use native.Mathlib.Nat.{mod-eq-of-lt}
 use native.Mathlib.Decide.{decLt, ℕ-discrete}
+use native.Mathlib.Nat.{mod-eq-of-lt}
 use native.Mathlib.Omega.{arith}
 use lib.Bits.{bitOr, or-add-and, and-le-l, and-le-r}
 use lib.Dec.{ltb, eqb}
@@ -15,8 +15,8 @@ use Rattle.bits.specs.Search.{count, some, firstFrom, afterLast}
 use Rattle.bits.proofs.Bits.{number-none, number-whole}
 use Rattle.bits.proofs.Searches.{count-add, count-cong, some-yes, some-no, First, first-found, first-is, Last, last-found, last-is, last-le}
 use Rattle.predicates.specs.declared.Predicate.{Predicate}
-use Rattle.predicates.specs.Predicate.{bitAt}
 use Rattle.predicates.specs.PredTest.{atLowest, atHighest}
+use Rattle.predicates.specs.Predicate.{bitAt}
 use Rattle.predicates.proofs.Words.{Words, word, bit-in-word, bit-of-none}
 
 -- ---- words that are 0

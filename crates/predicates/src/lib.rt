@@ -7,7 +7,7 @@ ghost use Rattle.bits.specs.Bits.{testBit, number};
 ghost use Rattle.bits.specs.Choice.{digit};
 ghost use Rattle.bits.specs.Search.{count as countBits, some, firstFrom, afterLast};
 ghost use Rattle.bits.specs.Size.{shift};
-ghost use Rattle.predicates.specs.Predicate.{bitAt, pack, active, spanOf, predicateLength, elements as elementsOf, liveOf, hasBitFrom};
+ghost use Rattle.predicates.specs.Predicate.{bitAt, pack, active, spread, spanOf, predicateLength, elements as elementsOf, liveOf, hasBitFrom};
 ghost use Rattle.predicates.specs.PredTest.{atLowest, atHighest, predTest, nzcv as nzcvOf, flagsOf};
 use bits::Size;
 
@@ -207,6 +207,32 @@ impl Predicate {
         Predicate::first(size, elements(vl, size))
     }
 
+    // How many of a vector's elements are active.
+    pub fn count_active(self, vl: u64, size: Size) -> u64
+        ensures { λ r. ⌜ r ≡ countBits (active (shift size) self) (elementsOf vl size) ⌝ }
+    {
+        self.and(Predicate::live(vl, size)).count()
+    }
+
+    // One more than the highest active element of a vector, or 0.
+    pub fn after_last(self, vl: u64, size: Size) -> u64
+        ensures { λ r. ⌜ r ≡ afterLast (active (shift size) self) (elementsOf vl size) ⌝ }
+    {
+        let end = self.and(Predicate::live(vl, size)).after_highest();
+        let k = size.shift();
+        (end + ((1 << k) - 1)) >> k
+    }
+
+    // Only element `e` active.
+    pub fn only_element(size: Size, e: u64) -> Predicate
+        ensures { λ r. ⌜ r ≡ pack (spread (shift size) (λ i. eqb i e)) ⌝ }
+    {
+        if 256 <= e {
+            return Predicate::none();
+        }
+        Predicate::only(e << size.shift())
+    }
+
     // Whether no bit at or above `pl` is set.
     pub fn is_within(self, pl: u64) -> bool
         ensures { λ r. ⌜ r ≡ not (hasBitFrom pl self) ⌝ }
@@ -311,12 +337,19 @@ impl Flags {
     }
 }
 
-// PredTest, bit by bit, as the number NZCV. For elements the mask is `mask.and(live)`.
-pub fn pred_test(mask: Predicate, result: Predicate) -> u64
+// PredTest over the 256 bits, as the number NZCV.
+pub fn test_bits(mask: Predicate, result: Predicate) -> u64
     ensures { λ r. ⌜ r ≡ nzcvOf (predTest (bitAt mask) (bitAt result) 256) ⌝ }
 {
     let n = at_lowest(mask, result);
     let z = mask.and(result).is_empty();
     let c = at_highest(mask, result);
     nzcv(n, z, !c)
+}
+
+// PredTest over a vector's elements, as the number NZCV.
+pub fn pred_test(mask: Predicate, result: Predicate, vl: u64, size: Size) -> u64
+    ensures { λ r. ⌜ r ≡ nzcvOf (predTest (active (shift size) mask) (active (shift size) result) (elementsOf vl size)) ⌝ }
+{
+    test_bits(mask.and(Predicate::live(vl, size)), result)
 }

@@ -1,7 +1,7 @@
 -- `bits::bit_length` meets its contract: the leading zeros and the highest set bit make 64. Assumes nothing.
-use borrow.Author.Needs.{needs}
 use native.Mathlib.Omega.{arith}
 use lib.Count.{leading-le}
+use borrow.Author.Needs.{needs}
 use Rattle.bits.proofs.Counts.{leading-last}
 use Rattle.bits.proofs.bit_length.Statement.{statement}
 use Rattle.bits.proofs.bit_length.Tie as tie

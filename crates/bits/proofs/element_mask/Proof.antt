@@ -2,8 +2,8 @@
 use mathlib.Core.Path.{ap, sym}
 use borrow.Author.Needs.{needs}
 use Rattle.bits.specs.declared.Size.{Size}
-use Rattle.bits.specs.Size.{shift}
 use Rattle.bits.specs.Bits.{number, elementBit}
+use Rattle.bits.specs.Size.{shift}
 use Rattle.bits.proofs.element_mask.Statement.{statement}
 use Rattle.bits.proofs.element_mask.Tie as tie
 

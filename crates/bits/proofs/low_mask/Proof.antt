@@ -1,8 +1,8 @@
 -- `bits::low_mask` meets its contract: all ones, shifted right, are the bits below a bound. Assumes nothing.
 use mathlib.Core.Path.{sym, ap, _∙_}
 use Prim.Native.Nat.{ℕ, _-_, _^_}
-use borrow.Author.Needs.{needs}
 use native.Mathlib.Omega.{arith}
+use borrow.Author.Needs.{needs}
 use Rattle.bits.proofs.Bits.{number-below, ones-shifted}
 use Rattle.bits.proofs.low_mask.Statement.{statement}
 use Rattle.bits.proofs.low_mask.Tie as tie

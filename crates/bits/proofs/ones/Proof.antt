@@ -1,7 +1,7 @@
 -- `bits::ones` meets its contract: the processor's count of ones is the count of the bits that are set. Assumes nothing.
-use borrow.Author.Needs.{needs}
 use native.Mathlib.Omega.{arith}
 use lib.Count.{ones-le}
+use borrow.Author.Needs.{needs}
 use Rattle.bits.proofs.Counts.{ones-count}
 use Rattle.bits.proofs.ones.Statement.{statement}
 use Rattle.bits.proofs.ones.Tie as tie

@@ -1,10 +1,10 @@
 -- `at_highest` meets its contract: the highest bit lies in the highest word that is not 0. Assumes nothing.
-use Rattle.predicates.proofs.WordSearch.{highest-test, highest-none, above-three, above-pred}
-use Rattle.predicates.proofs.Words.{words-of, Words, word}
-use Rattle.bits.proofs.Searches.{last-le}
-use Rattle.bits.specs.Bits.{testBit}
 use native.Mathlib.Omega.{arith}
 use borrow.Author.Needs.{needs}
+use Rattle.bits.specs.Bits.{testBit}
+use Rattle.bits.proofs.Searches.{last-le}
+use Rattle.predicates.proofs.WordSearch.{highest-test, highest-none, above-three, above-pred}
+use Rattle.predicates.proofs.Words.{words-of, Words, word}
 use Rattle.predicates.proofs.at_highest.Statement.{statement}
 use Rattle.predicates.proofs.at_highest.Tie as tie
 

@@ -1,8 +1,8 @@
 -- `at_lowest` meets its contract: the lowest bit lies in the lowest word that is not 0. Assumes nothing.
 use native.Mathlib.Omega.{arith}
+use borrow.Author.Needs.{needs}
 use Rattle.predicates.proofs.WordSearch.{lowest-test, lowest-none, below-zero, below-suc}
 use Rattle.predicates.proofs.Words.{words-of}
-use borrow.Author.Needs.{needs}
 use Rattle.predicates.proofs.at_lowest.Statement.{statement}
 use Rattle.predicates.proofs.at_lowest.Tie as tie
 

@@ -1,14 +1,14 @@
 -- `bit_in` meets its contract. Assumes nothing.
-use Rattle.bits.proofs.Bits.{number-only, number-none}
-use Rattle.bits.specs.Bits.{number}
-use borrow.Author.Tests.{ne-eqb}
-use lib.Pow.{pow-lt}
-use lib.Dec.{eqb}
-use native.Mathlib.Omega.{arith}
-use native.Mathlib.Nat.{one-mul, mod-eq-of-lt}
-use Prim.Native.Nat.{ℕ, _+_, _*_, _%_}
 use mathlib.Core.Path.{_≡_, ap, _∙_, sym}
+use Prim.Native.Nat.{ℕ, _+_, _*_, _%_}
+use native.Mathlib.Nat.{one-mul, mod-eq-of-lt}
+use native.Mathlib.Omega.{arith}
+use lib.Dec.{eqb}
+use lib.Pow.{pow-lt}
 use borrow.Author.Needs.{needs}
+use borrow.Author.Tests.{ne-eqb}
+use Rattle.bits.specs.Bits.{number}
+use Rattle.bits.proofs.Bits.{number-only, number-none}
 use Rattle.predicates.proofs.bit_in.Statement.{statement}
 use Rattle.predicates.proofs.bit_in.Tie as tie
 

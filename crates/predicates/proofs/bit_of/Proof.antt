@@ -1,7 +1,7 @@
 -- `bit_of` meets its contract. Assumes nothing.
-use Rattle.bits.specs.Bits.{testBit}
 use mathlib.Core.Path.{refl}
 use borrow.Author.Needs.{needs}
+use Rattle.bits.specs.Bits.{testBit}
 use Rattle.predicates.proofs.bit_of.Statement.{statement}
 use Rattle.predicates.proofs.bit_of.Tie as tie
 

@@ -1,10 +1,10 @@
 -- `elements` meets its contract. Assumes nothing.
-use Rattle.predicates.specs.Predicate.{elements}
-use Rattle.bits.proofs.Sizes.{shift-lt}
-use native.Mathlib.Omega.{arith}
-use Prim.Native.Nat.{ℕ, _/_, _^_}
 use mathlib.Core.Path.{ap₂}
+use Prim.Native.Nat.{ℕ, _/_, _^_}
+use native.Mathlib.Omega.{arith}
 use borrow.Author.Needs.{needs}
+use Rattle.bits.proofs.Sizes.{shift-lt}
+use Rattle.predicates.specs.Predicate.{elements}
 use Rattle.predicates.proofs.elements.Statement.{statement}
 use Rattle.predicates.proofs.elements.Tie as tie
 

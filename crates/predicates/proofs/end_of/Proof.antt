@@ -1,10 +1,10 @@
 -- `end_of` meets its contract. Assumes nothing.
-use Rattle.bits.proofs.Sizes.{shift-lt, shifted}
-use Rattle.bits.specs.Size.{shift}
-use native.Mathlib.Omega.{arith}
-use Prim.Native.Nat.{ℕ, _*_, _^_, _%_}
 use mathlib.Core.Path.{ap, _∙_}
+use Prim.Native.Nat.{ℕ, _*_, _^_, _%_}
+use native.Mathlib.Omega.{arith}
 use borrow.Author.Needs.{needs}
+use Rattle.bits.specs.Size.{shift}
+use Rattle.bits.proofs.Sizes.{shift-lt, shifted}
 use Rattle.predicates.proofs.end_of.Statement.{statement}
 use Rattle.predicates.proofs.end_of.Tie as tie
 

@@ -1,8 +1,8 @@
 -- `nzcv` meets its contract. Assumes nothing.
-use Rattle.predicates.proofs.Flagging.{number-of}
-use Rattle.bits.proofs.Searches.{digit-lt}
 use native.Mathlib.Omega.{arith}
 use borrow.Author.Needs.{needs}
+use Rattle.bits.proofs.Searches.{digit-lt}
+use Rattle.predicates.proofs.Flagging.{number-of}
 use Rattle.predicates.proofs.nzcv.Statement.{statement}
 use Rattle.predicates.proofs.nzcv.Tie as tie
 

@@ -1,6 +1,6 @@
 -- `predicate_length` meets its contract. Assumes nothing.
-use Rattle.predicates.specs.Predicate.{predicateLength}
 use native.Mathlib.Omega.{arith}
+use Rattle.predicates.specs.Predicate.{predicateLength}
 use Rattle.predicates.proofs.predicate_length.Statement.{statement}
 use Rattle.predicates.proofs.predicate_length.Tie as tie
 

@@ -1,6 +1,6 @@
 -- `Flags::of` meets its contract. Assumes nothing.
-use Rattle.predicates.specs.PredTest.{flagsOf}
 use borrow.Author.Needs.{needs}
+use Rattle.predicates.specs.PredTest.{flagsOf}
 use Rattle.predicates.proofs.Flags.of.Statement.{statement}
 use Rattle.predicates.proofs.Flags.of.Tie as tie
 

@@ -1,12 +1,12 @@
 -- `Predicate::after_highest` meets its contract: the highest bit lies in the highest word that is not 0. Assumes nothing.
+use mathlib.Core.Logic.{inl, inr}
+use mathlib.Core.Path.{refl}
+use native.Mathlib.Omega.{arith}
+use borrow.Author.Needs.{needs}
+use Rattle.bits.specs.Bits.{testBit}
+use Rattle.bits.proofs.Searches.{last-le}
 use Rattle.predicates.proofs.WordSearch.{highest-in, last-in, above-three, above-pred}
 use Rattle.predicates.proofs.Words.{words-of, Words, word}
-use Rattle.bits.proofs.Searches.{last-le}
-use Rattle.bits.specs.Bits.{testBit}
-use native.Mathlib.Omega.{arith}
-use mathlib.Core.Path.{refl}
-use mathlib.Core.Logic.{inl, inr}
-use borrow.Author.Needs.{needs}
 use Rattle.predicates.proofs.Predicate.after_highest.Statement.{statement}
 use Rattle.predicates.proofs.Predicate.after_highest.Tie as tie
 

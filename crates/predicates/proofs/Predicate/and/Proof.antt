@@ -1,10 +1,10 @@
 -- `Predicate::and` meets its contract: AND of words is `&&` of bits. Assumes nothing.
-use Rattle.predicates.proofs.Words.{words-of, pack-op}
-use Rattle.bits.proofs.Bits.{number-and}
-use lib.Bits.{bitAnd}
-use Prim.Native.Nat.{ℕ}
 use mathlib.Core.Bool.{_&&_}
+use Prim.Native.Nat.{ℕ}
+use lib.Bits.{bitAnd}
 use borrow.Author.Needs.{needs}
+use Rattle.bits.proofs.Bits.{number-and}
+use Rattle.predicates.proofs.Words.{words-of, pack-op}
 use Rattle.predicates.proofs.Predicate.and.Statement.{statement}
 use Rattle.predicates.proofs.Predicate.and.Tie as tie
 

@@ -1,12 +1,12 @@
 -- `Predicate::and_not` meets its contract: AND with the complement of a word is the same of bits. Assumes nothing.
-use Rattle.predicates.proofs.Words.{words-of, pack-op}
-use Rattle.bits.proofs.Bits.{number-and, number-not}
-use Rattle.bits.specs.Bits.{number}
-use lib.Bits.{bitAnd, bitXor}
-use Prim.Native.Nat.{ℕ}
-use mathlib.Core.Path.{ap, _∙_}
 use mathlib.Core.Bool.{not, _&&_}
+use mathlib.Core.Path.{ap, _∙_}
+use Prim.Native.Nat.{ℕ}
+use lib.Bits.{bitAnd, bitXor}
 use borrow.Author.Needs.{needs}
+use Rattle.bits.specs.Bits.{number}
+use Rattle.bits.proofs.Bits.{number-and, number-not}
+use Rattle.predicates.proofs.Words.{words-of, pack-op}
 use Rattle.predicates.proofs.Predicate.and_not.Statement.{statement}
 use Rattle.predicates.proofs.Predicate.and_not.Tie as tie
 

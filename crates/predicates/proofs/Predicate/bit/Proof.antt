@@ -1,10 +1,10 @@
 -- `Predicate::bit` meets its contract. Assumes nothing.
-use Rattle.predicates.proofs.Words.{words-of, bit-past}
-use Rattle.predicates.specs.Predicate.{bitAt}
-use Rattle.bits.specs.Bits.{testBit}
-use native.Mathlib.Omega.{arith}
 use mathlib.Core.Path.{refl, sym}
+use native.Mathlib.Omega.{arith}
 use borrow.Author.Needs.{needs}
+use Rattle.bits.specs.Bits.{testBit}
+use Rattle.predicates.specs.Predicate.{bitAt}
+use Rattle.predicates.proofs.Words.{words-of, bit-past}
 use Rattle.predicates.proofs.Predicate.bit.Statement.{statement}
 use Rattle.predicates.proofs.Predicate.bit.Tie as tie
 

@@ -1,10 +1,10 @@
 -- `Predicate::count` meets its contract: the ones of the four words. Assumes nothing.
-use Rattle.predicates.proofs.WordSearch.{count-words}
-use Rattle.predicates.proofs.Words.{word}
-use Rattle.bits.proofs.Searches.{count-le}
-use Rattle.bits.specs.Bits.{testBit}
 use native.Mathlib.Omega.{arith}
 use borrow.Author.Needs.{needs}
+use Rattle.bits.specs.Bits.{testBit}
+use Rattle.bits.proofs.Searches.{count-le}
+use Rattle.predicates.proofs.WordSearch.{count-words}
+use Rattle.predicates.proofs.Words.{word}
 use Rattle.predicates.proofs.Predicate.count.Statement.{statement}
 use Rattle.predicates.proofs.Predicate.count.Tie as tie
 

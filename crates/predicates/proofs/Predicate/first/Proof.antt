@@ -1,15 +1,15 @@
 -- `Predicate::first` meets its contract, a word at a time. Assumes nothing.
+use mathlib.Core.Path.{_≡_, ap, ap₂, _∙_}
+use Prim.Native.Nat.{ℕ, _%_, _≤_}
+use native.Mathlib.Omega.{arith}
+use lib.Bits.{bitAnd}
+use borrow.Author.Needs.{needs}
+use Rattle.bits.specs.Bits.{number, below}
+use Rattle.bits.specs.Size.{shift}
+use Rattle.bits.proofs.Sizes.{shift-lt}
+use Rattle.predicates.specs.Predicate.{spread, between}
 use Rattle.predicates.proofs.ElementBits.{first-word}
 use Rattle.predicates.proofs.Words.{four-words}
-use Rattle.predicates.specs.Predicate.{spread, between}
-use Rattle.bits.proofs.Sizes.{shift-lt}
-use Rattle.bits.specs.Size.{shift}
-use Rattle.bits.specs.Bits.{number, below}
-use lib.Bits.{bitAnd}
-use native.Mathlib.Omega.{arith}
-use Prim.Native.Nat.{ℕ, _%_, _≤_}
-use mathlib.Core.Path.{_≡_, ap, ap₂, _∙_}
-use borrow.Author.Needs.{needs}
 use Rattle.predicates.proofs.Predicate.first.Statement.{statement}
 use Rattle.predicates.proofs.Predicate.first.Tie as tie
 

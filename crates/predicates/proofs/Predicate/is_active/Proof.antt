@@ -1,17 +1,17 @@
-use native.Mathlib.Nat.{le-trans, mul-le-mul-left}
--- `Predicate::is_active` meets its contract: past element 255 there is no bit. Assumes nothing.
-use Rattle.predicates.proofs.Words.{words-of, bit-past}
-use Rattle.predicates.specs.Predicate.{bitAt, active}
-use Rattle.bits.proofs.Sizes.{shift-lt, shifted}
-use Rattle.bits.specs.Size.{shift}
-use lib.Pow.{pow-pos}
-use native.Mathlib.Omega.{arith}
-use native.Mathlib.Nat.{le-trans}
-use Prim.Native.Nat.{ℕ, _*_, _^_, _%_}
 use mathlib.Core.Path.{ap, _∙_, sym}
+use Prim.Native.Nat.{ℕ, _*_, _^_, _%_}
+use native.Mathlib.Nat.{le-trans, mul-le-mul-left}
+use native.Mathlib.Omega.{arith}
+use lib.Pow.{pow-pos}
 use borrow.Author.Needs.{needs}
+use Rattle.bits.specs.Size.{shift}
+use Rattle.bits.proofs.Sizes.{shift-lt, shifted}
+use Rattle.predicates.specs.Predicate.{bitAt, active}
+use Rattle.predicates.proofs.Words.{words-of, bit-past}
 use Rattle.predicates.proofs.Predicate.is_active.Statement.{statement}
 use Rattle.predicates.proofs.Predicate.is_active.Tie as tie
+
+-- `Predicate::is_active` meets its contract: past element 255 there is no bit. Assumes nothing.
 
 returns : tie.Need-returns
 unfolding active

@@ -1,7 +1,7 @@
 -- `Predicate::is_empty` meets its contract: a predicate has no bit exactly if its words, joined by OR, are 0. Assumes nothing.
+use borrow.Author.Needs.{needs}
 use Rattle.predicates.proofs.WordSearch.{empty-words}
 use Rattle.predicates.proofs.Words.{words-of}
-use borrow.Author.Needs.{needs}
 use Rattle.predicates.proofs.Predicate.is_empty.Statement.{statement}
 use Rattle.predicates.proofs.Predicate.is_empty.Tie as tie
 

@@ -1,11 +1,11 @@
 -- `Predicate::is_within` meets its contract: no bit is left when those below the bound are taken away. Assumes nothing.
-use Rattle.predicates.proofs.ElementBits.{bits-from}
-use Rattle.predicates.specs.Predicate.{bitAt, pack}
-use Rattle.predicates.specs.declared.Predicate.{Predicate}
-use Rattle.bits.specs.Search.{some}
-use mathlib.Core.Path.{ap, _∙_}
 use mathlib.Core.Bool.{not, _&&_}
+use mathlib.Core.Path.{ap, _∙_}
 use borrow.Author.Needs.{needs}
+use Rattle.bits.specs.Search.{some}
+use Rattle.predicates.specs.declared.Predicate.{Predicate}
+use Rattle.predicates.specs.Predicate.{bitAt, pack}
+use Rattle.predicates.proofs.ElementBits.{bits-from}
 use Rattle.predicates.proofs.Predicate.is_within.Statement.{statement}
 use Rattle.predicates.proofs.Predicate.is_within.Tie as tie
 

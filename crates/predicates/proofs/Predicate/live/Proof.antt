@@ -1,8 +1,8 @@
 -- `Predicate::live` meets its contract. Assumes nothing.
-use Rattle.predicates.specs.Predicate.{spanOf}
-use Rattle.bits.specs.Size.{shift}
 use mathlib.Core.Path.{ap, _∙_}
 use borrow.Author.Needs.{needs}
+use Rattle.bits.specs.Size.{shift}
+use Rattle.predicates.specs.Predicate.{spanOf}
 use Rattle.predicates.proofs.Predicate.live.Statement.{statement}
 use Rattle.predicates.proofs.Predicate.live.Tie as tie
 

@@ -1,12 +1,12 @@
 -- `Predicate::lowest` meets its contract: the lowest bit lies in the lowest word that is not 0. Assumes nothing.
+use mathlib.Core.Logic.{inl, inr}
+use mathlib.Core.Path.{refl}
+use native.Mathlib.Omega.{arith}
+use borrow.Author.Needs.{needs}
+use Rattle.bits.specs.Bits.{testBit}
+use Rattle.bits.proofs.Searches.{first-le}
 use Rattle.predicates.proofs.WordSearch.{lowest-in, first-in, below-zero, below-suc}
 use Rattle.predicates.proofs.Words.{words-of, Words, word}
-use Rattle.bits.proofs.Searches.{first-le}
-use Rattle.bits.specs.Bits.{testBit}
-use native.Mathlib.Omega.{arith}
-use mathlib.Core.Path.{refl}
-use mathlib.Core.Logic.{inl, inr}
-use borrow.Author.Needs.{needs}
 use Rattle.predicates.proofs.Predicate.lowest.Statement.{statement}
 use Rattle.predicates.proofs.Predicate.lowest.Tie as tie
 

@@ -1,11 +1,11 @@
 -- `Predicate::next_active` meets its contract. The search from `next` finds what the search from `start` finds. Assumes nothing.
-use Rattle.predicates.specs.Predicate.{active}
-use Rattle.bits.proofs.Searches.{first-end, first-hit, first-miss}
-use Rattle.bits.specs.Size.{shift}
-use Rattle.bits.specs.Search.{firstFrom}
-use Prim.Native.Nat.{_-_}
 use mathlib.Core.Path.{_≡_, refl, sym, _∙_}
+use Prim.Native.Nat.{_-_}
 use borrow.Author.Needs.{needs}
+use Rattle.bits.specs.Search.{firstFrom}
+use Rattle.bits.specs.Size.{shift}
+use Rattle.bits.proofs.Searches.{first-end, first-hit, first-miss}
+use Rattle.predicates.specs.Predicate.{active}
 use Rattle.predicates.proofs.Predicate.next_active.Statement.{statement}
 use Rattle.predicates.proofs.Predicate.next_active.Tie as tie
 

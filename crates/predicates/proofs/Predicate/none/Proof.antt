@@ -1,7 +1,7 @@
 -- `Predicate::none` meets its contract. Assumes nothing.
-use Rattle.predicates.specs.Predicate.{pack}
-use Rattle.bits.specs.Bits.{number}
 use mathlib.Core.Path.{refl}
+use Rattle.bits.specs.Bits.{number}
+use Rattle.predicates.specs.Predicate.{pack}
 use Rattle.predicates.proofs.Predicate.none.Statement.{statement}
 use Rattle.predicates.proofs.Predicate.none.Tie as tie
 

@@ -1,7 +1,7 @@
 -- `Predicate::only` meets its contract. Assumes nothing.
-use Rattle.predicates.proofs.Words.{four-words}
 use lib.Dec.{eqb}
 use borrow.Author.Needs.{needs}
+use Rattle.predicates.proofs.Words.{four-words}
 use Rattle.predicates.proofs.Predicate.only.Statement.{statement}
 use Rattle.predicates.proofs.Predicate.only.Tie as tie
 

@@ -1,10 +1,10 @@
 -- `Predicate::or` meets its contract: OR of words is `||` of bits. Assumes nothing.
-use Rattle.predicates.proofs.Words.{words-of, pack-op}
-use Rattle.bits.proofs.Bits.{number-or}
-use lib.Bits.{bitOr}
-use Prim.Native.Nat.{ℕ}
 use mathlib.Core.Bool.{_||_}
+use Prim.Native.Nat.{ℕ}
+use lib.Bits.{bitOr}
 use borrow.Author.Needs.{needs}
+use Rattle.bits.proofs.Bits.{number-or}
+use Rattle.predicates.proofs.Words.{words-of, pack-op}
 use Rattle.predicates.proofs.Predicate.or.Statement.{statement}
 use Rattle.predicates.proofs.Predicate.or.Tie as tie
 

@@ -1,11 +1,11 @@
 -- `Predicate::span` meets its contract: what lies below its end and not below its start. Assumes nothing.
-use Rattle.predicates.proofs.ElementBits.{span-minus}
-use Rattle.predicates.specs.Predicate.{bitAt, pack}
-use Rattle.predicates.specs.declared.Predicate.{Predicate}
-use Rattle.bits.specs.Size.{shift}
-use mathlib.Core.Path.{ap₂, _∙_}
 use mathlib.Core.Bool.{not, _&&_}
+use mathlib.Core.Path.{ap₂, _∙_}
 use borrow.Author.Needs.{needs}
+use Rattle.bits.specs.Size.{shift}
+use Rattle.predicates.specs.declared.Predicate.{Predicate}
+use Rattle.predicates.specs.Predicate.{bitAt, pack}
+use Rattle.predicates.proofs.ElementBits.{span-minus}
 use Rattle.predicates.proofs.Predicate.span.Statement.{statement}
 use Rattle.predicates.proofs.Predicate.span.Tie as tie
 

@@ -1,0 +1,46 @@
+use mathlib.Core.Bool.{not}
+use mathlib.Core.Path.{ap, _∙_}
+use borrow.Author.Needs.{needs}
+use Rattle.bits.specs.Search.{some}
+use Rattle.predicates.specs.declared.Predicate.{Predicate}
+use Rattle.predicates.specs.PredTest.{nzcv}
+use Rattle.predicates.specs.Predicate.{bitAt}
+use Rattle.predicates.proofs.Flagging.{tests}
+use Rattle.predicates.proofs.test_bits.Statement.{statement}
+use Rattle.predicates.proofs.test_bits.Tie as tie
+
+-- `test_bits` meets its contract. Assumes nothing.
+
+at-lowest-requires : tie.Need-at-lowest-requires
+at-lowest-requires c κs = search needs
+
+and-requires : tie.Need-and-requires
+and-requires c κs = search needs
+
+is-empty-requires : tie.Need-is-empty-requires
+is-empty-requires c κs = search needs
+
+at-highest-requires : tie.Need-at-highest-requires
+at-highest-requires c κs = search needs
+
+nzcv-requires : tie.Need-nzcv-requires
+nzcv-requires c κs = search needs
+
+returns : tie.Need-returns
+returns c =
+    let m = c .before .before .before .before .before .args .mask in
+    let r = c .before .before .before .before .before .args .result in
+    c .nzcv .ensures
+    ∙ ap nzcv (tests m r _ _ _ (c .before .before .before .before .at-lowest .ensures)
+    (c .before .before .is-empty .ensures ∙ ap (λ (p : Predicate). not (some (bitAt p) 256)) (c .before .before .before .and .ensures)) (c .before .at-highest .ensures))
+
+pub test-bits-spec : {M : Type 1} → statement M
+test-bits-spec =
+    tie.close
+    (tie.spec
+    at-lowest-requires
+    and-requires
+    is-empty-requires
+    at-highest-requires
+    nzcv-requires
+    returns)
