@@ -1,6 +1,6 @@
 -- Laws of the searches among the numbers below a bound. What `firstFrom` and `afterLast` find is stated once, as a record, and nothing else has it.
 -- Assumes nothing.
-use mathlib.Core.Bool.{Bool, true, false, _||_}
+use mathlib.Core.Bool.{Bool, true, false, _&&_, _||_}
 use mathlib.Core.Logic.{⊎-elim}
 use mathlib.Core.Path.{_≡_, refl, sym, ap, ap₂, _∙_}
 use Prim.Native.Nat.{ℕ, zero, suc, _+_, _-_, _≤_, _<_, zero-le}
@@ -226,3 +226,24 @@ first-le f n = first-found f 0 n zero-le .upto
 
 pub last-le : (f : ℕ → Bool) (n : ℕ) → afterLast f n ≤ n
 last-le f n = last-found f n .upto
+
+-- ---- a search within a search
+
+same-truth : (a b : Bool) → (a ≡ true → b ≡ true) → (b ≡ true → a ≡ true) → a ≡ b
+same-truth true b f g = sym (f refl)
+same-truth false true f g = g refl
+same-truth false false f g = refl
+
+some-over : (f : ℕ → ℕ → Bool) (m n : ℕ) → some (λ a. some (λ b. f a b) m) n ≡ true → some (λ b. some (λ a. f a b) n) m ≡ true
+some-over f m n h =
+    let (a, l, s) = some-found (λ a. some (λ b. f a b) m) n h in
+    let (b, k, t) = some-found (λ b. f a b) m s in
+    some-yes (λ b. some (λ a. f a b) n) m b k (some-yes (λ a. f a b) n a l t)
+
+-- the order of the two searches does not matter
+pub some-swap : (f : ℕ → ℕ → Bool) (m n : ℕ) → some (λ a. some (λ b. f a b) m) n ≡ some (λ b. some (λ a. f a b) n) m
+some-swap f m n = same-truth _ _ (some-over f m n) (some-over (λ b a. f a b) n m)
+
+pub some-and : (t : Bool) (f : ℕ → Bool) (n : ℕ) → (t && some f n) ≡ some (λ e. t && f e) n
+some-and true f n = refl
+some-and false f n = sym (some-no (λ e. false) n (λ e l. refl))

@@ -5,3 +5,4 @@ pub mod ElementBits
 pub mod Flagging
 pub mod Live
 pub mod Spans
+pub mod Lengths

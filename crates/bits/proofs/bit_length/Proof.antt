@@ -10,7 +10,7 @@ cast-result : tie.Need-cast-result
 cast-result c = omega (arith, leading-le 64 (c .args .word))
 
 sub-result : tie.Need-sub-result
-sub-result c = leading-le 64 (c .args .word)
+sub-result c = omega (arith, leading-le 64 (c .args .word))
 
 returns : tie.Need-returns
 returns c = leading-last 64 (c .args .word) (search needs)

@@ -1,0 +1,129 @@
+-- Laws of legality: what a legal state has, and that writes keep it. Facts over the vector length are over VL = 128 q. Assumes nothing.
+use mathlib.Core.Bool.{Bool, true, false, not, _&&_, _||_}
+use mathlib.Core.List.{List, [], _∷_}
+use mathlib.Core.Path.{_≡_, refl, sym, ap, ap₂, _∙_}
+use Prim.Native.Nat.{ℕ, zero, suc, _+_, _*_, _≤_, _<_}
+use native.Mathlib.Decide.{ℕ-discrete}
+use native.Mathlib.Numerals.{add-one}
+use native.Mathlib.Omega.{arith}
+use lib.Dec.{ltb, leb}
+use lib.ListN.{getD, set, length}
+use borrow.Author.Tests.{ne-eqb, eqb-true, lt-ltb, le-ltb, ltb-false}
+use Rattle.bits.specs.Search.{some}
+use Rattle.bits.proofs.Searches.{never, some-cong, some-none, some-no, some-swap, some-and}
+use Rattle.predicates.specs.declared.Flags.{Flags}
+use Rattle.predicates.specs.declared.Predicate.{Predicate}
+use Rattle.predicates.specs.Predicate.{bitAt, pack, predicateLength, hasBitFrom}
+use Rattle.predicates.proofs.Words.{pack-bit, pack-cong}
+use Rattle.registers.specs.declared.State.{State}
+use Rattle.registers.specs.Legal.{isLength, hasStrayBit, illegal, legal}
+use Rattle.registers.specs.State.{allFalse, readP, withX, withP, withFlags}
+
+-- ---- the test, case by case
+
+pub not-length : (s : State) (t : Bool) → t ≡ isLength (s .vl) → not t ≡ true → false ≡ legal s
+unfolding illegal
+not-length s true h n = never n refl
+not-length s false h n = ap (λ (b : Bool). not (not b || (ltb 3 (s .level) || hasStrayBit s))) h
+
+pub above-three : (s : State) (t : Bool) → t ≡ isLength (s .vl) → not t ≡ false → 3 < s .level → false ≡ legal s
+unfolding illegal
+above-three s false h n l = never refl n
+above-three s true h n l = ap₂ (λ (b c : Bool). not (not b || (c || hasStrayBit s))) h (sym (lt-ltb 3 (s .level) l))
+
+pub rest : (s : State) (t : Bool) → t ≡ isLength (s .vl) → not t ≡ false → s .level ≤ 3 → not (hasStrayBit s) ≡ legal s
+unfolding illegal
+rest s false h n l = never refl n
+rest s true h n l = ap₂ (λ (b c : Bool). not (not b || (c || hasStrayBit s))) h (sym (le-ltb 3 (s .level) l))
+
+-- a stray bit of some predicate is one of their union
+pub stray-union : (s : State) (u : Predicate) → u ≡ pack (λ b. some (λ r. bitAt (readP s r) b) 16) → hasBitFrom (predicateLength (s .vl)) u ≡ hasStrayBit s
+unfolding hasBitFrom hasStrayBit
+stray-union s u e =
+    ap (λ (p : Predicate). some (λ b. leb (predicateLength (s .vl)) b && bitAt p b) 256) e
+    ∙ some-cong _ _ 256 (λ b h. ap (λ (x : Bool). leb (predicateLength (s .vl)) b && x) (pack-bit _ b h) ∙ some-and (leb (predicateLength (s .vl)) b) (λ r. bitAt (readP s r) b) 16)
+    ∙ some-swap (λ b r. leb (predicateLength (s .vl)) b && bitAt (readP s r) b) 16 256
+
+-- ---- what a legal state has
+
+pub record Legal (s : State) : Type 0 where
+  pub len : isLength (s .vl) ≡ true
+  pub level : s .level ≤ 3
+  pub bits : (r : ℕ) → r < 16 → hasBitFrom (predicateLength (s .vl)) (readP s r) ≡ false
+
+three : (a b c : Bool) → not (not a || (b || c)) ≡ true → (a ≡ true) × (b ≡ false) × (c ≡ false)
+three true false false h = (refl, refl, refl)
+three true false true h = never h refl
+three true true c h = never h refl
+three false b c h = never h refl
+
+pub legal-has : (s : State) → legal s ≡ true → Legal s
+unfolding illegal hasStrayBit
+legal-has s h =
+    let (a, b, c) = three (isLength (s .vl)) (ltb 3 (s .level)) (hasStrayBit s) h in
+    record { len = a; level = ltb-false 3 (s .level) b; bits = some-none _ 16 c }
+
+pub has-legal : (s : State) → Legal s → legal s ≡ true
+unfolding illegal hasStrayBit
+has-legal s l =
+    ap₂ (λ (a b : Bool). not (not a || (b || hasStrayBit s))) (l .len) (le-ltb 3 (s .level) (l .level)) ∙ ap not (some-no _ 16 (l .bits))
+
+-- VL is 128 q, with q from 1 to 16
+pub quads : (vl : ℕ) → isLength vl ≡ true → (q : ℕ) × (vl ≡ 128 * q) × (1 ≤ q) × (q ≤ 16)
+unfolding isLength
+quads vl h =
+    elim (ℕ-discrete vl 128) [
+      | yes e ↦ (1, e, omega arith, omega arith)
+      | no a ↦
+          elim (ℕ-discrete vl 256) [
+            | yes e ↦ (2, e, omega arith, omega arith)
+            | no b ↦
+                elim (ℕ-discrete vl 512) [
+                  | yes e ↦ (4, e, omega arith, omega arith)
+                  | no c ↦
+                      elim (ℕ-discrete vl 1024) [
+                        | yes e ↦ (8, e, omega arith, omega arith)
+                        | no d ↦
+                            (16, eqb-true vl 2048 (rw (ne-eqb vl 128 a, ne-eqb vl 256 b, ne-eqb vl 512 c, ne-eqb vl 1024 d) at h), omega arith, omega arith)
+                      ]
+                ]
+          ]
+    ]
+
+-- ---- writes keep legality
+
+pub withX-legal : (s : State) (r v : ℕ) → legal (withX s r v) ≡ legal s
+unfolding withX illegal hasStrayBit
+withX-legal s r v = refl
+
+pub withFlags-legal : (s : State) (f : Flags) → legal (withFlags s f) ≡ legal s
+unfolding withFlags illegal hasStrayBit
+withFlags-legal s f = refl
+
+read-set : (ps : List Predicate) (r n : ℕ) (q : Predicate) (pl : ℕ) → hasBitFrom pl q ≡ false → hasBitFrom pl (getD ps n allFalse) ≡ false
+    → hasBitFrom pl (getD (set ps r q) n allFalse) ≡ false
+read-set [] r n q pl hq h = h
+read-set (p ∷ ps) zero zero q pl hq h = hq
+read-set (p ∷ ps) zero (suc n) q pl hq h = h
+read-set (p ∷ ps) (suc r) zero q pl hq h = h
+read-set (p ∷ ps) (suc r) (suc n) q pl hq h = read-set ps r n q pl hq h
+
+pub withP-legal : (s : State) (r : ℕ) (q : Predicate) → hasBitFrom (predicateLength (s .vl)) q ≡ false → legal s ≡ true → legal (withP s r q) ≡ true
+unfolding withP
+withP-legal s r q hq h =
+    let l = legal-has s h in
+    has-legal (withP s r q) (record { len = l .len; level = l .level; bits = λ n k. read-set (s .p) r n q (predicateLength (s .vl)) hq (l .bits n k) })
+
+-- ---- the union, predicate by predicate
+
+abbrev pub unionOf : List Predicate → ℕ → Predicate
+unionOf ps n = pack (λ b. some (λ r. bitAt (getD ps r allFalse) b) n)
+
+pub union-none : (ps : List Predicate) → pack (λ b. false) ≡ unionOf ps 0
+unfolding some
+union-none ps = refl
+
+pub union-more : (ps : List Predicate) (i : ℕ) (p q r : Predicate) → p ≡ getD ps i allFalse → q ≡ unionOf ps i → r ≡ pack (λ b. bitAt p b || bitAt q b) → r ≡ unionOf ps (i + 1)
+unfolding some
+union-more ps i p q r hp hq hr =
+    hr ∙ pack-cong _ _ (λ b h. rw add-one (ap₂ _||_ (ap (λ (x : Predicate). bitAt x b) hp) (ap (λ (x : Predicate). bitAt x b) hq ∙ pack-bit _ b h)))

@@ -1,0 +1,24 @@
+-- What reply 4 refuses.
+use Prim.Native.Nat.{ℕ}
+use mathlib.Core.Bool.{Bool, not, _||_}
+use lib.Dec.{ltb, eqb}
+use Rattle.bits.specs.Search.{some}
+use Rattle.predicates.specs.Predicate.{predicateLength, hasBitFrom}
+use Rattle.registers.specs.declared.State.{State}
+use Rattle.registers.specs.State.{readP}
+
+-- the five vector lengths
+unfoldable pub isLength : ℕ → Bool
+isLength vl = eqb vl 128 || (eqb vl 256 || (eqb vl 512 || (eqb vl 1024 || eqb vl 2048)))
+
+-- a predicate register has a bit at or above PL
+unfoldable pub hasStrayBit : State → Bool
+hasStrayBit s = some (λ r. hasBitFrom (predicateLength (s .vl)) (readP s r)) 16
+
+-- VL not one of the five, level above 3, or a predicate bit at or above PL
+unfoldable pub illegal : State → Bool
+illegal s = not (isLength (s .vl)) || (ltb 3 (s .level) || hasStrayBit s)
+
+-- a legal register state is one that reply 4 does not refuse
+abbrev pub legal : State → Bool
+legal s = not (illegal s)

@@ -1,0 +1,173 @@
+// The register state: reads and writes by value, which of its values are legal, and the replies.
+ghost use mathlib.Core.Path.{_≡_};
+ghost use Rattle.bits.specs.Search.{some};
+ghost use Rattle.predicates.specs.Predicate.{bitAt, pack};
+ghost use lib.ListN.{getD};
+ghost use Rattle.registers.specs.State.{allFalse, readX, readP, withX, withP, withFlags};
+ghost use Rattle.registers.specs.Legal.{isLength, legal};
+ghost use Rattle.registers.specs.Reply.{numberOf};
+use predicates::Flags;
+use predicates::Predicate;
+
+#[repr(C)]
+pub struct State {
+    // The vector length in bits.
+    pub vl: u64,
+    // 0 none, 1 SVE, 2 SVE2, 3 SVE2p1.
+    pub level: u8,
+    pub access: bool,
+    pub flags: Flags,
+    pub x: [u64; 31],
+    pub p: [Predicate; 16],
+}
+
+impl State {
+    pub fn new(
+        vl: u64,
+        level: u8,
+        access: bool,
+        flags: Flags,
+        x: [u64; 31],
+        p: [Predicate; 16],
+    ) -> State
+        ensures { λ s. ⌜ s ≡ record { vl = vl; level = level; access = access; flags = flags; x = x; p = p } ⌝ }
+    {
+        State {
+            vl,
+            level,
+            access,
+            flags,
+            x,
+            p,
+        }
+    }
+
+    pub fn read_x(self, r: u8) -> u64
+        ensures { λ v. ⌜ v ≡ readX self r ⌝ }
+    {
+        let i = r as usize;
+        if i < 31 { self.x[i] } else { 0 }
+    }
+
+    pub fn read_p(self, r: u8) -> Predicate
+        ensures { λ q. ⌜ q ≡ readP self r ⌝ }
+    {
+        let i = r as usize;
+        if i < 16 {
+            return self.p[i];
+        }
+        Predicate::none()
+    }
+
+    pub fn with_x(mut self, r: u8, v: u64) -> State
+        ensures { λ s. ⌜ s ≡ withX self r v ⌝ }
+    {
+        let i = r as usize;
+        if i < 31 {
+            self.x[i] = v;
+        }
+        self
+    }
+
+    pub fn with_p(mut self, r: u8, q: Predicate) -> State
+        ensures { λ s. ⌜ s ≡ withP self r q ⌝ }
+    {
+        let i = r as usize;
+        if i < 16 {
+            self.p[i] = q;
+        }
+        self
+    }
+
+    pub fn with_flags(mut self, flags: Flags) -> State
+        ensures { λ s. ⌜ s ≡ withFlags self flags ⌝ }
+    {
+        self.flags = flags;
+        self
+    }
+
+    // Whether reply 4 does not refuse the state. The predicates are joined first, so that one test serves all sixteen.
+    pub fn is_legal(self) -> bool
+        ensures { λ r. ⌜ r ≡ legal self ⌝ }
+    {
+        if !is_length(self.vl) {
+            return false;
+        }
+        if 3 < self.level {
+            return false;
+        }
+        let p = self.p;
+        union(p).is_within(predicates::predicate_length(self.vl))
+    }
+}
+
+fn is_length(vl: u64) -> bool
+    ensures { λ r. ⌜ r ≡ isLength vl ⌝ }
+{
+    if vl == 128 {
+        return true;
+    }
+    if vl == 256 {
+        return true;
+    }
+    if vl == 512 {
+        return true;
+    }
+    if vl == 1024 {
+        return true;
+    }
+    vl == 2048
+}
+
+// The bits that any of the predicates has.
+fn union(p: [Predicate; 16]) -> Predicate
+    ensures { λ q. ⌜ q ≡ pack (λ b. some (λ r. bitAt (getD p r allFalse) b) 16) ⌝ }
+{
+    let mut q = Predicate::none();
+    let mut i = 0;
+    while i < 16 {
+        let next = p[i];
+        q = next.or(q);
+        i += 1;
+    }
+    q
+}
+
+// What a request is answered with.
+pub enum Reply {
+    Done,
+    UnknownWord,
+    LevelTooLow,
+    AccessOff,
+    IllegalState,
+    ImageCut,
+    NotAllowed,
+    TrailingBytes,
+    BufferTooSmall,
+    FieldPastRange,
+    BadWalkRegisters,
+    ListTooShort,
+    BudgetSpent,
+}
+
+impl Reply {
+    pub fn number(self) -> u8
+        ensures { λ r. ⌜ r ≡ numberOf self ⌝ }
+    {
+        match self {
+            Reply::Done => 0,
+            Reply::UnknownWord => 1,
+            Reply::LevelTooLow => 2,
+            Reply::AccessOff => 3,
+            Reply::IllegalState => 4,
+            Reply::ImageCut => 5,
+            Reply::NotAllowed => 6,
+            Reply::TrailingBytes => 7,
+            Reply::BufferTooSmall => 8,
+            Reply::FieldPastRange => 9,
+            Reply::BadWalkRegisters => 10,
+            Reply::ListTooShort => 11,
+            Reply::BudgetSpent => 12,
+        }
+    }
+}
