@@ -1,0 +1,53 @@
+-- Laws of WHILE's operand and of how many comparisons hold, over the width. Assumes nothing.
+use mathlib.Core.Bool.{Bool, true, false, not}
+use mathlib.Core.Path.{_≡_, refl, sym, ap, _∙_}
+use Prim.Native.Nat.{ℕ, _+_, _≤_, _<_}
+use native.Mathlib.Numerals.{add-one}
+use native.Mathlib.Omega.{arith}
+use mir.Syntax.{Width}
+use Rattle.bits.specs.Search.{firstFrom}
+use Rattle.bits.proofs.Searches.{first-end, first-hit, first-miss}
+use Rattle.words.specs.declared.Condition.{Condition}
+use Rattle.scalars.specs.Value.{valueAs}
+use Rattle.scalars.specs.While.{holds, upward, stepOf, operandAt, comparison, heldOf}
+
+pub operand-first : (w : Width) (up : Bool) (a : ℕ) → operandAt w up a 0 ≡ a
+unfolding operandAt
+operand-first w up a = refl
+
+pub operand-next : (w : Width) (up : Bool) (a i : ℕ) → operandAt w up a (i + 1) ≡ stepOf w up (operandAt w up a i)
+unfolding operandAt
+operand-next w up a i = ap (operandAt w up a) (add-one i)
+
+-- the loop of comparisons: before turn i the operand is that of comparison i, and the first that fails is sought from i on
+pub record At (w : Width) (unsigned : Bool) (c : Condition) (a b n operand i : ℕ) : Type 0 where
+  pub within : i ≤ n
+  pub operand-is : operand ≡ operandAt w (upward c) a i
+  pub sought : firstFrom (λ e. not (comparison w unsigned c a b e)) i n ≡ heldOf (comparison w unsigned c a b) n
+
+module _ (w : Width) (unsigned : Bool) (c : Condition) (a b n : ℕ) where
+  pub begin : At w unsigned c a b n a 0
+  begin = record { within = omega arith; operand-is = sym (operand-first w (upward c) a); sought = refl }
+
+  now : (operand i : ℕ) (t : Bool) → At w unsigned c a b n operand i → t ≡ holds c (valueAs w unsigned operand) (valueAs w unsigned b) → t ≡ comparison w unsigned c a b i
+  unfolding comparison
+  now operand i t s e = e ∙ ap (λ (x : ℕ). holds c (valueAs w unsigned x) (valueAs w unsigned b)) (s .operand-is)
+
+  -- a comparison that holds: one more
+  pub again : (operand next i : ℕ) (t up : Bool) → At w unsigned c a b n operand i → i < n → t ≡ holds c (valueAs w unsigned operand) (valueAs w unsigned b) → t ≡ true
+      → up ≡ upward c → next ≡ stepOf w up operand → At w unsigned c a b n next (i + 1)
+  again operand next i t up s l e h eu en =
+      record {
+        within = omega arith;
+        operand-is = en ∙ ap (λ (u : Bool). stepOf w u operand) eu ∙ ap (stepOf w (upward c)) (s .operand-is) ∙ sym (operand-next w (upward c) a i);
+        sought = sym (first-miss _ i n l (ap not (sym (now operand i t s e) ∙ h))) ∙ s .sought;
+      }
+
+  -- one that fails: the count is here
+  pub stops : (operand i : ℕ) (t : Bool) → At w unsigned c a b n operand i → i < n → t ≡ holds c (valueAs w unsigned operand) (valueAs w unsigned b) → t ≡ false
+      → i ≡ heldOf (comparison w unsigned c a b) n
+  stops operand i t s l e h = sym (first-hit _ i n l (ap not (sym (now operand i t s e) ∙ h))) ∙ s .sought
+
+  -- all hold
+  pub ends : (operand i : ℕ) → At w unsigned c a b n operand i → n ≤ i → i ≡ heldOf (comparison w unsigned c a b) n
+  ends operand i s l = sym (first-end _ i n l) ∙ s .sought

@@ -1,0 +1,25 @@
+-- `decrement64` meets its contract. Assumes nothing.
+use native.Mathlib.Omega.{arith}
+use mir.Syntax.{w64}
+use borrow.Author.Needs.{needs}
+use Rattle.scalars.proofs.Clamps.{low-fits, dec-least, dec-fits, dec-is}
+use Rattle.scalars.proofs.decrement64.Statement.{statement}
+use Rattle.scalars.proofs.decrement64.Tie as tie
+
+cast-k : tie.Need-cast-k
+cast-k c = search needs
+
+add-if1 : tie.Need-add-if1
+add-if1 c = low-fits w64 (c .args .n) (omega arith)
+
+returns : tie.Need-returns
+returns c = dec-least w64 (c .before .args .n) (omega arith) (c .before .args .v) (c .before .fits .v) (c .if1 .taken)
+
+sub-result : tie.Need-sub-result
+sub-result c = dec-fits w64 (c .before .args .n) (omega arith) (c .before .args .v) (c .before .fits .v) (c .if1 .left)
+
+returns-2 : tie.Need-returns-2
+returns-2 c = dec-is w64 (c .before .args .n) (omega arith) (c .before .args .v) (c .before .fits .v) (c .if1 .left)
+
+pub decrement64-spec : {M : Type 1} → statement M
+decrement64-spec = tie.close (tie.spec cast-k add-if1 returns sub-result returns-2)

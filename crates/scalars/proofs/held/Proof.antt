@@ -1,0 +1,48 @@
+-- `held` meets its contract: at 64 bits the operands are the registers, at 32 their low words. Assumes nothing.
+use mathlib.Core.Path.{sym, ap₂, _∙_}
+use Prim.Native.Nat.{ℕ}
+use native.Mathlib.Nat.{mod-eq-of-lt}
+use mir.Syntax.{w32, w64}
+use borrow.Author.Needs.{needs}
+use Rattle.scalars.specs.While.{comparison, heldOf}
+use Rattle.scalars.proofs.held.Statement.{statement}
+use Rattle.scalars.proofs.held.Tie as tie
+
+held64-requires : tie.Need-held64-requires
+held64-requires c κs = search needs
+
+returns : tie.Need-returns
+returns c =
+    let u = c .before .before .args .unsigned in
+    let k = c .before .before .args .condition in
+    rw (c .before .if1 .taken)
+    (c .held64 .ensures
+    ∙ ap₂ (λ (x y : ℕ). heldOf (comparison w64 u k x y) (c .before .before .args .n)) (sym (mod-eq-of-lt (c .before .before .fits .a .fits))) (sym (mod-eq-of-lt (c .before .before .fits .b .fits))))
+
+low-word-requires : tie.Need-low-word-requires
+low-word-requires c κs = search needs
+
+low-word-requires-2 : tie.Need-low-word-requires-2
+low-word-requires-2 c κs = search needs
+
+held32-requires : tie.Need-held32-requires
+held32-requires c κs = search needs
+
+returns-2 : tie.Need-returns-2
+returns-2 c =
+    let u = c .before .before .before .before .args .unsigned in
+    let k = c .before .before .before .before .args .condition in
+    rw (c .before .before .before .if1 .left)
+    (c .held32 .ensures
+    ∙ ap₂ (λ (x y : ℕ). heldOf (comparison w32 u k x y) (c .before .before .before .before .args .n)) (c .before .before .low-word .ensures) (c .before .low-word2 .ensures))
+
+pub held-spec : {M : Type 1} → statement M
+held-spec =
+    tie.close
+    (tie.spec
+    held64-requires
+    returns
+    low-word-requires
+    low-word-requires-2
+    held32-requires
+    returns-2)

@@ -1,0 +1,34 @@
+-- `holds_i32` meets its contract. Assumes nothing.
+use mir.Facts.{toZ-ofZ}
+use borrow.Author.Needs.{needs}
+use Rattle.scalars.proofs.holds_i32.Statement.{statement}
+use Rattle.scalars.proofs.holds_i32.Tie as tie
+
+enum-told : tie.Need-enum-told
+enum-told c = search needs
+
+enum-told-2 : tie.Need-enum-told-2
+enum-told-2 c = search needs
+
+enum-told-3 : tie.Need-enum-told-3
+enum-told-3 c = search needs
+
+enum-told-4 : tie.Need-enum-told-4
+enum-told-4 c = search needs
+
+returns : tie.Need-returns
+returns c = rw (c .enum-told .given .1, toZ-ofZ (c .before .before .fits .a), toZ-ofZ (c .before .before .fits .b))
+
+returns-2 : tie.Need-returns-2
+returns-2 c = rw (c .enum-told2 .given .1, toZ-ofZ (c .before .before .fits .a), toZ-ofZ (c .before .before .fits .b))
+
+returns-3 : tie.Need-returns-3
+returns-3 c = rw (c .enum-told3 .given .1, toZ-ofZ (c .before .before .fits .a), toZ-ofZ (c .before .before .fits .b))
+
+returns-4 : tie.Need-returns-4
+returns-4 c = rw (c .enum-told4 .given .1, toZ-ofZ (c .before .before .fits .a), toZ-ofZ (c .before .before .fits .b))
+
+pub holds-i32-spec : {M : Type 1} → statement M
+holds-i32-spec =
+    tie.close
+    (tie.spec enum-told enum-told-2 enum-told-3 enum-told-4 returns returns-2 returns-3 returns-4)

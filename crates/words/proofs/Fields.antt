@@ -1,0 +1,101 @@
+-- An instruction and its fields: building undoes taking the fields, and the other way round.
+use Prim.Native.Nat.{ℕ, zero, suc, _<_, _/_, _^_}
+use mathlib.Core.Path.{_≡_, refl}
+use mathlib.Core.Bool.{Bool, true, false}
+use native.Mathlib.Nat.{mod-lt}
+use native.Mathlib.Omega.{arith}
+use lib.Pow.{pow-pos}
+use Rattle.bits.specs.Choice.{digit}
+use Rattle.bits.specs.Size.{shift}
+use Rattle.bits.specs.declared.Size.{Size}
+use Rattle.bits.specs.declared.Size.the-variants as Sz
+use Rattle.words.specs.Layout.{slice, cut}
+use Rattle.words.specs.Words.{Form, layout, flag, sizeOf, conditionOf, ltBit, eqBit, formOf, fieldsOf, build, readAs}
+use Rattle.words.specs.Words.Form.{whileOne, whilePair, whileCounter, saturating, incDec, cntp, cntpCounter, pnext, pfirst, ptest, pfalse}
+use Rattle.words.specs.declared.Condition.{Condition}
+use Rattle.words.specs.declared.Condition.the-variants.{Less, LessEqual, GreaterEqual, Greater}
+use Rattle.words.specs.declared.Target.{Target}
+use Rattle.words.specs.declared.Target.the-variants.{One, Pair, Counter}
+use Rattle.words.specs.declared.Instruction.{Instruction}
+use Rattle.words.specs.declared.Instruction.the-variants.{While, Saturating, IncDec, Cntp, CntpCounter, Pnext, Pfirst, Ptest, Pfalse}
+
+flag-digit : (b : Bool) → flag (digit b) ≡ b
+flag-digit true = refl
+flag-digit false = refl
+
+size-shift : (s : Size) → sizeOf (shift s) ≡ s
+size-shift Sz.B = refl
+size-shift Sz.H = refl
+size-shift Sz.S = refl
+size-shift Sz.D = refl
+
+condition-bits : (c : Condition) → conditionOf (ltBit c) (eqBit c) ≡ c
+condition-bits Less = refl
+condition-bits LessEqual = refl
+condition-bits GreaterEqual = refl
+condition-bits Greater = refl
+
+ruleset building = (flag-digit, size-shift, condition-bits)
+
+build-while : (c : Condition) (u : Bool) (t : Target) (s : Size) (rn rm : ℕ) → build (formOf (While c u t s rn rm)) (fieldsOf (While c u t s rn rm)) ≡ While c u t s rn rm
+build-while c u (One w pd) s rn rm = simp building
+build-while c u (Pair pd) s rn rm = simp building
+build-while c u (Counter f pnd) s rn rm = simp building
+
+-- an instruction is built from its fields
+pub build-fields : (i : Instruction) → build (formOf i) (fieldsOf i) ≡ i
+build-fields (While c u t s rn rm) = build-while c u t s rn rm
+build-fields (Saturating d u w s pm rdn) = simp building
+build-fields (IncDec d s pm rdn) = simp building
+build-fields (Cntp s pg pn rd) = simp building
+build-fields (CntpCounter f s pnn rd) = simp building
+build-fields (Pnext s pv pdn) = simp building
+build-fields (Pfirst pg pdn) = refl
+build-fields (Ptest pg pn) = refl
+build-fields (Pfalse pd) = refl
+
+digit-flag : (n : ℕ) → n < 2 → digit (flag n) ≡ n
+digit-flag zero h = refl
+digit-flag (suc zero) h = refl
+digit-flag (suc (suc n)) h = absurd (omega arith)
+
+shift-size : (n : ℕ) → n < 4 → shift (sizeOf n) ≡ n
+shift-size zero h = refl
+shift-size (suc zero) h = refl
+shift-size (suc (suc zero)) h = refl
+shift-size (suc (suc (suc zero))) h = refl
+shift-size (suc (suc (suc (suc n)))) h = absurd (omega arith)
+
+slice-digit : (lo w : ℕ) → digit (flag (slice lo 1 w)) ≡ slice lo 1 w
+slice-digit lo w = digit-flag (slice lo 1 w) (mod-lt (w / 2 ^ lo) (pow-pos 1))
+
+slice-size : (lo w : ℕ) → shift (sizeOf (slice lo 2 w)) ≡ slice lo 2 w
+slice-size lo w = shift-size (slice lo 2 w) (mod-lt (w / 2 ^ lo) (pow-pos 2))
+
+lt-condition : (l e : Bool) → ltBit (conditionOf l e) ≡ l
+lt-condition true true = refl
+lt-condition true false = refl
+lt-condition false true = refl
+lt-condition false false = refl
+
+eq-condition : (l e : Bool) → eqBit (conditionOf l e) ≡ e
+eq-condition true true = refl
+eq-condition true false = refl
+eq-condition false true = refl
+eq-condition false false = refl
+
+ruleset reading-back = (slice-digit, slice-size, lt-condition, eq-condition)
+
+-- what a word is read as has that form, and the word's fields
+pub read-back : (f : Form) (w : ℕ) → (formOf (readAs f w) ≡ f) × (fieldsOf (readAs f w) ≡ cut (layout f) w)
+read-back whileOne w = (refl, simp reading-back)
+read-back whilePair w = (refl, simp reading-back)
+read-back whileCounter w = (refl, simp reading-back)
+read-back saturating w = (refl, simp reading-back)
+read-back incDec w = (refl, simp reading-back)
+read-back cntp w = (refl, simp reading-back)
+read-back cntpCounter w = (refl, simp reading-back)
+read-back pnext w = (refl, simp reading-back)
+read-back pfirst w = (refl, refl)
+read-back ptest w = (refl, refl)
+read-back pfalse w = (refl, refl)

@@ -1,0 +1,20 @@
+-- `words::write::write_saturating` meets its contract: the word, or the refusal, by one test of the fields' ranges.
+use Rattle.words.specs.Layout.{fits}
+use Rattle.words.proofs.Writing.{written, refused, ranging}
+use borrow.Author.Needs.{needs}
+use Rattle.words.proofs.write.write_saturating.Statement.{statement}
+use Rattle.words.proofs.write.write_saturating.Tie as tie
+
+saturating-word-requires : tie.Need-saturating-word-requires
+saturating-word-requires c κs = search needs
+
+returns : tie.Need-returns
+unfolding fits
+returns c = written _ _ (c .before .if1 .taken) (simp ranging) (c .saturating-word .ensures)
+
+returns-2 : tie.Need-returns-2
+unfolding fits
+returns-2 c = refused _ (c .if1 .left) (simp ranging)
+
+pub write-saturating-spec : {M : Type 1} → statement M
+write-saturating-spec = tie.close (tie.spec saturating-word-requires returns returns-2)

@@ -1,0 +1,127 @@
+// Instruction words: reading, writing, and the level that each asks.
+use bits::Size;
+use registers::Reply;
+ghost use mathlib.Core.Path.{_≡_};
+ghost use Rattle.words.specs.Words.{levelOf, whileLevel};
+
+mod read;
+mod write;
+
+pub use read::decode;
+pub use write::encode;
+
+// The comparison of a WHILE.
+pub enum Condition {
+    Less,
+    LessEqual,
+    GreaterEqual,
+    Greater,
+}
+
+// What a WHILE writes: a predicate, the pair P(2 pd) and P(2 pd + 1), or the counter P(8 + pnd).
+pub enum Target {
+    One { wide: bool, pd: u8 },
+    Pair { pd: u8 },
+    Counter { four: bool, pnd: u8 },
+}
+
+pub enum Instruction {
+    While {
+        condition: Condition,
+        unsigned: bool,
+        target: Target,
+        size: Size,
+        rn: u8,
+        rm: u8,
+    },
+    Saturating {
+        decrement: bool,
+        unsigned: bool,
+        wide: bool,
+        size: Size,
+        pm: u8,
+        rdn: u8,
+    },
+    IncDec {
+        decrement: bool,
+        size: Size,
+        pm: u8,
+        rdn: u8,
+    },
+    Cntp {
+        size: Size,
+        pg: u8,
+        pn: u8,
+        rd: u8,
+    },
+    CntpCounter {
+        four: bool,
+        size: Size,
+        pnn: u8,
+        rd: u8,
+    },
+    Pnext {
+        size: Size,
+        pv: u8,
+        pdn: u8,
+    },
+    Pfirst {
+        pg: u8,
+        pdn: u8,
+    },
+    Ptest {
+        pg: u8,
+        pn: u8,
+    },
+    Pfalse {
+        pd: u8,
+    },
+}
+
+// What a word is.
+pub enum Decoded {
+    Ours(Instruction),
+    Refused(Reply),
+}
+
+// How an instruction is written.
+pub enum Encoded {
+    Word(u32),
+    Refused(Reply),
+}
+
+fn while_level(condition: Condition, target: Target) -> u8
+    ensures { λ r. ⌜ r ≡ whileLevel condition target ⌝ }
+{
+    match target {
+        Target::One { .. } => match condition {
+            Condition::Less => 1,
+            Condition::LessEqual => 1,
+            Condition::GreaterEqual => 2,
+            Condition::Greater => 2,
+        },
+        Target::Pair { .. } => 3,
+        Target::Counter { .. } => 3,
+    }
+}
+
+// The level that an instruction asks.
+pub fn level(i: Instruction) -> u8
+    ensures { λ r. ⌜ r ≡ levelOf i ⌝ }
+{
+    match i {
+        Instruction::While {
+            condition,
+            target,
+            ..
+        } => while_level(condition, target),
+        Instruction::Saturating { .. } => 1,
+        Instruction::IncDec { .. } => 1,
+        Instruction::Cntp { .. } => 1,
+        Instruction::CntpCounter { .. } => 3,
+        Instruction::Pnext { .. } => 1,
+        Instruction::Pfirst { .. } => 1,
+        Instruction::Ptest { .. } => 1,
+        Instruction::Pfalse { .. } => 1,
+    }
+}

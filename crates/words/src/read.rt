@@ -1,0 +1,306 @@
+// Reading a word: for each form a test of its fixed bits, from the lowest up, and a cut of its fields.
+use super::Condition;
+use super::Decoded;
+use super::Instruction;
+use super::Target;
+use bits::Size;
+use registers::Reply;
+ghost use mathlib.Core.Path.{_≡_};
+ghost use lib.ListN.{drop};
+ghost use Rattle.words.specs.Layout.{slice};
+ghost use Rattle.words.specs.Words.{Form, conditionOf, sizeOf, flag, forms, reads, readAs, firstOf, decodeOf};
+
+fn size_of(n: u32) -> Size
+    ensures { λ r. ⌜ r ≡ sizeOf n ⌝ }
+{
+    match n {
+        0 => Size::B,
+        1 => Size::H,
+        2 => Size::S,
+        _ => Size::D,
+    }
+}
+
+fn condition_of(lt: bool, eq: bool) -> Condition
+    ensures { λ r. ⌜ r ≡ conditionOf lt eq ⌝ }
+{
+    if lt {
+        if eq {
+            Condition::LessEqual
+        } else {
+            Condition::Less
+        }
+    } else {
+        if eq {
+            Condition::Greater
+        } else {
+            Condition::GreaterEqual
+        }
+    }
+}
+
+// The fields that the three WHILE forms have at the same places.
+fn read_while(w: u32, eq: bool, target: Target) -> Instruction
+    ensures { λ r. ⌜ r ≡ Instruction.While (conditionOf (flag (slice 10 1 w)) eq) (flag (slice 11 1 w)) target
+        (sizeOf (slice 22 2 w)) (slice 5 5 w) (slice 16 5 w) ⌝ }
+{
+    let condition = condition_of((w >> 10) % 2 == 1, eq);
+    let size = size_of((w >> 22) % 4);
+    Instruction::While {
+        condition,
+        unsigned: (w >> 11) % 2 == 1,
+        target,
+        size,
+        rn: ((w >> 5) % 32) as u8,
+        rm: ((w >> 16) % 32) as u8,
+    }
+}
+
+fn is_while_one(w: u32) -> bool
+    ensures { λ r. ⌜ r ≡ reads Form.whileOne w ⌝ }
+{
+    ((w >> 13) % 8 == 0b000) & ((w >> 21) % 2 == 0b1) & ((w >> 24) % 256 == 0b00100101)
+}
+
+fn read_while_one(w: u32) -> Instruction
+    ensures { λ r. ⌜ r ≡ readAs Form.whileOne w ⌝ }
+{
+    let target = Target::One {
+        wide: (w >> 12) % 2 == 1,
+        pd: ((w >> 0) % 16) as u8,
+    };
+    read_while(w, (w >> 4) % 2 == 1, target)
+}
+
+fn is_while_pair(w: u32) -> bool
+    ensures { λ r. ⌜ r ≡ reads Form.whilePair w ⌝ }
+{
+    ((w >> 4) % 2 == 0b1)
+        & ((w >> 12) % 16 == 0b0101)
+        & ((w >> 21) % 2 == 0b1)
+        & ((w >> 24) % 256 == 0b00100101)
+}
+
+fn read_while_pair(w: u32) -> Instruction
+    ensures { λ r. ⌜ r ≡ readAs Form.whilePair w ⌝ }
+{
+    let target = Target::Pair {
+        pd: ((w >> 1) % 8) as u8,
+    };
+    read_while(w, (w >> 0) % 2 == 1, target)
+}
+
+fn is_while_counter(w: u32) -> bool
+    ensures { λ r. ⌜ r ≡ reads Form.whileCounter w ⌝ }
+{
+    ((w >> 4) % 2 == 0b1)
+        & ((w >> 12) % 2 == 0b0)
+        & ((w >> 14) % 4 == 0b01)
+        & ((w >> 21) % 2 == 0b1)
+        & ((w >> 24) % 256 == 0b00100101)
+}
+
+fn read_while_counter(w: u32) -> Instruction
+    ensures { λ r. ⌜ r ≡ readAs Form.whileCounter w ⌝ }
+{
+    let target = Target::Counter {
+        four: (w >> 13) % 2 == 1,
+        pnd: ((w >> 0) % 8) as u8,
+    };
+    read_while(w, (w >> 3) % 2 == 1, target)
+}
+
+fn is_saturating(w: u32) -> bool
+    ensures { λ r. ⌜ r ≡ reads Form.saturating w ⌝ }
+{
+    ((w >> 9) % 2 == 0b0)
+        & ((w >> 11) % 32 == 0b10001)
+        & ((w >> 18) % 16 == 0b1010)
+        & ((w >> 24) % 256 == 0b00100101)
+}
+
+fn read_saturating(w: u32) -> Instruction
+    ensures { λ r. ⌜ r ≡ readAs Form.saturating w ⌝ }
+{
+    let size = size_of((w >> 22) % 4);
+    Instruction::Saturating {
+        decrement: (w >> 17) % 2 == 1,
+        unsigned: (w >> 16) % 2 == 1,
+        wide: (w >> 10) % 2 == 1,
+        size,
+        pm: ((w >> 5) % 16) as u8,
+        rdn: ((w >> 0) % 32) as u8,
+    }
+}
+
+fn is_inc_dec(w: u32) -> bool
+    ensures { λ r. ⌜ r ≡ reads Form.incDec w ⌝ }
+{
+    ((w >> 9) % 4 == 0b00)
+        & ((w >> 11) % 32 == 0b10001)
+        & ((w >> 17) % 32 == 0b10110)
+        & ((w >> 24) % 256 == 0b00100101)
+}
+
+fn read_inc_dec(w: u32) -> Instruction
+    ensures { λ r. ⌜ r ≡ readAs Form.incDec w ⌝ }
+{
+    let size = size_of((w >> 22) % 4);
+    Instruction::IncDec {
+        decrement: (w >> 16) % 2 == 1,
+        size,
+        pm: ((w >> 5) % 16) as u8,
+        rdn: ((w >> 0) % 32) as u8,
+    }
+}
+
+fn is_cntp(w: u32) -> bool
+    ensures { λ r. ⌜ r ≡ reads Form.cntp w ⌝ }
+{
+    ((w >> 9) % 2 == 0b0) & ((w >> 14) % 256 == 0b10000010) & ((w >> 24) % 256 == 0b00100101)
+}
+
+fn read_cntp(w: u32) -> Instruction
+    ensures { λ r. ⌜ r ≡ readAs Form.cntp w ⌝ }
+{
+    let size = size_of((w >> 22) % 4);
+    Instruction::Cntp {
+        size,
+        pg: ((w >> 10) % 16) as u8,
+        pn: ((w >> 5) % 16) as u8,
+        rd: ((w >> 0) % 32) as u8,
+    }
+}
+
+fn is_cntp_counter(w: u32) -> bool
+    ensures { λ r. ⌜ r ≡ reads Form.cntpCounter w ⌝ }
+{
+    ((w >> 9) % 2 == 0b1) & ((w >> 11) % 2048 == 0b10000010000) & ((w >> 24) % 256 == 0b00100101)
+}
+
+fn read_cntp_counter(w: u32) -> Instruction
+    ensures { λ r. ⌜ r ≡ readAs Form.cntpCounter w ⌝ }
+{
+    let size = size_of((w >> 22) % 4);
+    Instruction::CntpCounter {
+        four: (w >> 10) % 2 == 1,
+        size,
+        pnn: ((w >> 5) % 16) as u8,
+        rd: ((w >> 0) % 32) as u8,
+    }
+}
+
+fn is_pnext(w: u32) -> bool
+    ensures { λ r. ⌜ r ≡ reads Form.pnext w ⌝ }
+{
+    ((w >> 4) % 2 == 0b0) & ((w >> 9) % 8192 == 0b0110011100010) & ((w >> 24) % 256 == 0b00100101)
+}
+
+fn read_pnext(w: u32) -> Instruction
+    ensures { λ r. ⌜ r ≡ readAs Form.pnext w ⌝ }
+{
+    let size = size_of((w >> 22) % 4);
+    Instruction::Pnext {
+        size,
+        pv: ((w >> 5) % 16) as u8,
+        pdn: ((w >> 0) % 16) as u8,
+    }
+}
+
+fn is_pfirst(w: u32) -> bool
+    ensures { λ r. ⌜ r ≡ reads Form.pfirst w ⌝ }
+{
+    ((w >> 4) % 2 == 0b0) & ((w >> 9) % (1 << 23) == 0x2558C000 >> 9)
+}
+
+fn read_pfirst(w: u32) -> Instruction
+    ensures { λ r. ⌜ r ≡ readAs Form.pfirst w ⌝ }
+{
+    Instruction::Pfirst {
+        pg: ((w >> 5) % 16) as u8,
+        pdn: ((w >> 0) % 16) as u8,
+    }
+}
+
+fn is_ptest(w: u32) -> bool
+    ensures { λ r. ⌜ r ≡ reads Form.ptest w ⌝ }
+{
+    ((w >> 0) % 32 == 0b00000) & ((w >> 9) % 2 == 0b0) & ((w >> 14) % (1 << 18) == 0x2550C000 >> 14)
+}
+
+fn read_ptest(w: u32) -> Instruction
+    ensures { λ r. ⌜ r ≡ readAs Form.ptest w ⌝ }
+{
+    Instruction::Ptest {
+        pg: ((w >> 10) % 16) as u8,
+        pn: ((w >> 5) % 16) as u8,
+    }
+}
+
+fn is_pfalse(w: u32) -> bool
+    ensures { λ r. ⌜ r ≡ reads Form.pfalse w ⌝ }
+{
+    (w >> 4) % (1 << 28) == 0x2518E400 >> 4
+}
+
+fn read_pfalse(w: u32) -> Instruction
+    ensures { λ r. ⌜ r ≡ readAs Form.pfalse w ⌝ }
+{
+    Instruction::Pfalse {
+        pd: ((w >> 0) % 16) as u8,
+    }
+}
+
+// The forms that count.
+fn decode_count(w: u32) -> Decoded
+    ensures { λ r. ⌜ r ≡ firstOf (drop 3 forms) w ⌝ }
+{
+    if is_saturating(w) {
+        return Decoded::Ours(read_saturating(w));
+    }
+    if is_inc_dec(w) {
+        return Decoded::Ours(read_inc_dec(w));
+    }
+    if is_cntp(w) {
+        return Decoded::Ours(read_cntp(w));
+    }
+    if is_cntp_counter(w) {
+        return Decoded::Ours(read_cntp_counter(w));
+    }
+    decode_predicate(w)
+}
+
+// The forms on predicates alone; no other form is ours.
+fn decode_predicate(w: u32) -> Decoded
+    ensures { λ r. ⌜ r ≡ firstOf (drop 7 forms) w ⌝ }
+{
+    if is_pnext(w) {
+        return Decoded::Ours(read_pnext(w));
+    }
+    if is_pfirst(w) {
+        return Decoded::Ours(read_pfirst(w));
+    }
+    if is_ptest(w) {
+        return Decoded::Ours(read_ptest(w));
+    }
+    if is_pfalse(w) {
+        return Decoded::Ours(read_pfalse(w));
+    }
+    Decoded::Refused(Reply::UnknownWord)
+}
+
+// The instruction that a word is.
+pub fn decode(word: u32) -> Decoded
+    ensures { λ r. ⌜ r ≡ decodeOf word ⌝ }
+{
+    if is_while_one(word) {
+        return Decoded::Ours(read_while_one(word));
+    }
+    if is_while_pair(word) {
+        return Decoded::Ours(read_while_pair(word));
+    }
+    if is_while_counter(word) {
+        return Decoded::Ours(read_while_counter(word));
+    }
+    decode_count(word)
+}
