@@ -247,3 +247,16 @@ some-swap f m n = same-truth _ _ (some-over f m n) (some-over (λ b a. f a b) n 
 pub some-and : (t : Bool) (f : ℕ → Bool) (n : ℕ) → (t && some f n) ≡ some (λ e. t && f e) n
 some-and true f n = refl
 some-and false f n = sym (some-no (λ e. false) n (λ e l. refl))
+
+-- ---- a search that stops earlier
+
+-- what is found below m is found whatever the bound above it
+pub first-below : (f : ℕ → Bool) (m n : ℕ) → m ≤ n → firstFrom f 0 n < m → firstFrom f 0 m ≡ firstFrom f 0 n
+first-below f m n h l =
+    let r = first-found f 0 n zero-le in
+    sym (first-is f 0 m (firstFrom f 0 n) (record { from = zero-le; upto = omega arith; none = r .none; hit = λ a. r .hit (omega arith) }))
+
+pub first-beyond : (f : ℕ → Bool) (m n : ℕ) → m ≤ firstFrom f 0 n → firstFrom f 0 m ≡ m
+first-beyond f m n h =
+    let r = first-found f 0 n zero-le in
+    sym (first-is f 0 m m (record { from = zero-le; upto = omega arith; none = λ e a b. r .none e a (omega arith); hit = λ a. absurd (omega arith) }))

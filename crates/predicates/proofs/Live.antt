@@ -28,6 +28,10 @@ pub elements-fit : (vl : ℕ) (size : Size) → elements vl size * 2 ^ shift siz
 unfolding elements predicateLength
 elements-fit vl size = le-trans (div-mul-le-self (min (vl / 8) 256) (2 ^ shift size)) (min-le-right (vl / 8) 256)
 
+pub elements-le : (vl : ℕ) (size : Size) → elements vl size ≤ 256
+unfolding elements predicateLength
+elements-le vl size = le-trans (div-le-self (min (vl / 8) 256) (2 ^ shift size)) (min-le-right (vl / 8) 256)
+
 -- the elements' bits end at or below PL
 pub elements-within : (vl : ℕ) (size : Size) → elements vl size * 2 ^ shift size ≤ predicateLength vl
 unfolding elements
@@ -285,6 +289,23 @@ module _ (vl : ℕ) (size : Size) (p m : Predicate) (under : m ≡ pack (λ b. b
   test-live r =
       ap (λ (x : Predicate). predTest (bitAt x) (bitAt r) 256) live-is
       ∙ test-same (shift size) (elements vl size) (elements-fit vl size) p r
+
+  -- the lowest bit is that of the first active element
+  pub first-live : (e : ℕ) → e ≡ firstFrom (active (shift size) p) 0 (elements vl size) → e < elements vl size → e * 2 ^ shift size ≡ firstFrom (bitAt m) 0 256
+  first-live e h l =
+      first-bit (shift size) (elements vl size) (elements-fit vl size) live (upto-past (elements vl size) (active (shift size) p)) e (h ∙ sym same) l
+      ∙ ap (λ (x : Predicate). firstFrom (bitAt x) 0 256) (sym live-is)
+    where
+      same : firstFrom live 0 (elements vl size) ≡ firstFrom (active (shift size) p) 0 (elements vl size)
+      same = first-cong _ _ 0 (elements vl size) zero-le (λ i a b. upto-at (elements vl size) (active (shift size) p) i b)
+
+  pub first-live-none : elements vl size ≤ firstFrom (active (shift size) p) 0 (elements vl size) → 256 ≡ firstFrom (bitAt m) 0 256
+  first-live-none h =
+      first-none-bit (shift size) (elements vl size) (elements-fit vl size) live (upto-past (elements vl size) (active (shift size) p)) (omega (arith, same))
+      ∙ ap (λ (x : Predicate). firstFrom (bitAt x) 0 256) (sym live-is)
+    where
+      same : firstFrom live 0 (elements vl size) ≡ firstFrom (active (shift size) p) 0 (elements vl size)
+      same = first-cong _ _ 0 (elements vl size) zero-le (λ i a b. upto-at (elements vl size) (active (shift size) p) i b)
 
 -- ---- one element alone
 

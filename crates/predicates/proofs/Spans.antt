@@ -8,11 +8,13 @@ use native.Mathlib.Omega.{arith}
 use lib.Dec.{ltb, leb, eqb}
 use lib.Pow.{pow-pos}
 use borrow.Author.Tests.{lt-ltb, le-ltb, le-leb, lt-leb, eq-eqb, ne-eqb}
-use Rattle.bits.specs.Bits.{elementBit}
+use Rattle.bits.specs.Bits.{testBit, elementBit}
 use Rattle.bits.specs.Search.{count, some, firstFrom, afterLast}
-use Rattle.bits.proofs.Searches.{some-yes, some-no, first-is, first-hit, last-is}
+use Rattle.bits.proofs.Counts.{above-none}
+use Rattle.bits.proofs.Searches.{some-yes, some-no, some-none, first-is, first-hit, last-is}
+use Rattle.predicates.specs.declared.Predicate.{Predicate}
 use Rattle.predicates.specs.PredTest.{atLowest, atHighest, predTest}
-use Rattle.predicates.specs.Predicate.{bitAt, pack, active, spread, between, spanOf, hasBitFrom}
+use Rattle.predicates.specs.Predicate.{bitAt, pack, allFalse, active, spread, between, spanOf, hasBitFrom}
 use Rattle.predicates.proofs.ElementBits.{active-pack}
 use Rattle.predicates.proofs.Flagging.{flags-are}
 use Rattle.predicates.proofs.Words.{pack-bit}
@@ -176,3 +178,26 @@ spread-within k n pl q h past = some-no _ 256 (λ b l. go b l)
 
 pub span-within : (k from to pl : ℕ) → to * 2 ^ k ≤ pl → hasBitFrom pl (spanOf k from to) ≡ false
 span-within k from to pl h = spread-within k to pl (between from to) h (λ e l. between-after from to e l)
+
+-- a predicate has no bit from pl on if each of its bits there is 0
+pub none-within : (pl : ℕ) (f : ℕ → Bool) → ((b : ℕ) → pl ≤ b → b < 256 → f b ≡ false) → hasBitFrom pl (pack f) ≡ false
+unfolding hasBitFrom
+none-within pl f z = some-no _ 256 (λ b l. go b l)
+  where
+    go : (b : ℕ) → b < 256 → (leb pl b && bitAt (pack f) b) ≡ false
+    go b l =
+        elim (decLt b pl) [
+          | yes m ↦ ap (λ (x : Bool). x && bitAt (pack f) b) (lt-leb pl b m)
+          | no m ↦ ap (λ (x : Bool). leb pl b && x) (pack-bit f b l ∙ z b (omega arith) l) ∙ and-false (leb pl b)
+        ]
+
+-- and the other way round
+pub within-none : (pl : ℕ) (p : Predicate) → hasBitFrom pl p ≡ false → (b : ℕ) → pl ≤ b → b < 256 → bitAt p b ≡ false
+unfolding hasBitFrom
+within-none pl p h b l m = sym (ap (λ (x : Bool). x && bitAt p b) (le-leb pl b l)) ∙ some-none _ 256 h b m
+
+pub word-within : (pl n : ℕ) → n < 2 ^ pl → hasBitFrom pl (pack (testBit n)) ≡ false
+word-within pl n h = none-within pl (testBit n) (λ b l m. above-none n pl b h l)
+
+pub false-within : (pl : ℕ) → hasBitFrom pl allFalse ≡ false
+false-within pl = none-within pl (λ b. false) (λ b l m. refl)

@@ -1,6 +1,6 @@
 -- A predicate's bits and elements. An element of 2 ^ k bits belongs to the size whose `shift` is k.
 use Prim.Native.Nat.{ℕ, _*_, _/_, _%_, _^_, min}
-use mathlib.Core.Bool.{Bool, _&&_}
+use mathlib.Core.Bool.{Bool, false, _&&_}
 use mathlib.Core.List.{[], _∷_}
 use lib.Dec.{ltb, leb}
 use lib.ListN.{getD}
@@ -17,6 +17,10 @@ bitAt p b = testBit (getD (p .words) (b / 64) 0) (b % 64)
 -- the predicate whose bits are f
 unfoldable pub pack : (ℕ → Bool) → Predicate
 pack f = record { words = number f 0 64 ∷ number f 64 64 ∷ number f 128 64 ∷ number f 192 64 ∷ [] }
+
+-- the predicate with no bit set
+abbrev pub allFalse : Predicate
+allFalse = pack (λ b. false)
 
 -- element e is active exactly if its lowest bit is 1
 unfoldable pub active : ℕ → Predicate → ℕ → Bool

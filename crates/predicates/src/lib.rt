@@ -7,7 +7,7 @@ ghost use Rattle.bits.specs.Bits.{testBit, number};
 ghost use Rattle.bits.specs.Choice.{digit};
 ghost use Rattle.bits.specs.Search.{count as countBits, some, firstFrom, afterLast};
 ghost use Rattle.bits.specs.Size.{shift};
-ghost use Rattle.predicates.specs.Predicate.{bitAt, pack, active, spread, spanOf, predicateLength, elements as elementsOf, liveOf, hasBitFrom};
+ghost use Rattle.predicates.specs.Predicate.{bitAt, pack, allFalse, active, spread, spanOf, predicateLength, elements as elementsOf, liveOf, hasBitFrom};
 ghost use Rattle.predicates.specs.PredTest.{atLowest, atHighest, predTest, nzcv as nzcvOf, flagsOf};
 use bits::Size;
 
@@ -43,9 +43,18 @@ pub fn elements(vl: u64, size: Size) -> u64
 impl Predicate {
     // No bit set.
     pub fn none() -> Predicate
-        ensures { λ r. ⌜ r ≡ pack (λ b. false) ⌝ }
+        ensures { λ r. ⌜ r ≡ allFalse ⌝ }
     {
         Predicate { words: [0; 4] }
+    }
+
+    // The bits of a word, and no other.
+    pub fn of_word(word: u64) -> Predicate
+        ensures { λ r. ⌜ r ≡ pack (testBit word) ⌝ }
+    {
+        Predicate {
+            words: [word, 0, 0, 0],
+        }
     }
 
     pub fn and(self, other: Predicate) -> Predicate

@@ -1,15 +1,10 @@
 -- The register state: reads and writes. A number past the last register reads as zero, and a write to it vanishes.
 use Prim.Native.Nat.{ℕ}
-use mathlib.Core.Bool.{false}
 use lib.ListN.{getD, set}
 use Rattle.predicates.specs.declared.Flags.{Flags}
 use Rattle.predicates.specs.declared.Predicate.{Predicate}
-use Rattle.predicates.specs.Predicate.{pack}
+pub use Rattle.predicates.specs.Predicate.{allFalse}
 use Rattle.registers.specs.declared.State.{State}
-
--- the predicate with no bit set
-abbrev pub allFalse : Predicate
-allFalse = pack (λ b. false)
 
 -- X0 to X30; number 31 reads as zero
 abbrev pub readX : State → ℕ → ℕ

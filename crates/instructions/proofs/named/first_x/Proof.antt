@@ -1,0 +1,84 @@
+-- `first_x` meets its contract: the field that each form reads. Assumes nothing.
+use mathlib.Core.Path.{sym, ap}
+use borrow.Author.Needs.{needs}
+use Rattle.instructions.specs.Registers.{firstX}
+use Rattle.instructions.proofs.named.first_x.Reads as reads
+use Rattle.instructions.proofs.named.first_x.Statement.{statement}
+use Rattle.instructions.proofs.named.first_x.Tie as tie
+
+enum-known-i : tie.Need-enum-known-i
+enum-known-i c = search needs
+
+enum-known-i-2 : tie.Need-enum-known-i-2
+enum-known-i-2 c = search needs
+
+enum-known-i-3 : tie.Need-enum-known-i-3
+enum-known-i-3 c = search needs
+
+enum-told : tie.Need-enum-told
+enum-told c = search needs
+
+enum-told-2 : tie.Need-enum-told-2
+enum-told-2 c = search needs
+
+enum-told-3 : tie.Need-enum-told-3
+enum-told-3 c = search needs
+
+enum-told-4 : tie.Need-enum-told-4
+enum-told-4 c = search needs
+
+enum-told-5 : tie.Need-enum-told-5
+enum-told-5 c = search needs
+
+enum-told-6 : tie.Need-enum-told-6
+enum-told-6 c = search needs
+
+returns : tie.Need-returns
+returns c = sym (ap firstX (c .before .i .given .1))
+
+returns-2 : tie.Need-returns-2
+returns-2 c = sym (ap firstX (c .before .i2 .given .1))
+
+returns-3 : tie.Need-returns-3
+returns-3 c = sym (ap firstX (c .before .i3 .given .1))
+
+returns-4 : tie.Need-returns-4
+returns-4 c = search needs
+
+returns-5 : tie.Need-returns-5
+returns-5 c = search needs
+
+returns-6 : tie.Need-returns-6
+returns-6 c = search needs
+
+returns-7 : tie.Need-returns-7
+returns-7 c = search needs
+
+returns-8 : tie.Need-returns-8
+returns-8 c = search needs
+
+returns-9 : tie.Need-returns-9
+returns-9 c = search needs
+
+pub first-x-spec : {M : Type 1} → statement M
+first-x-spec =
+    tie.close
+    (tie.spec
+    enum-known-i
+    enum-known-i-2
+    enum-known-i-3
+    enum-told
+    enum-told-2
+    enum-told-3
+    enum-told-4
+    enum-told-5
+    enum-told-6
+    returns
+    returns-2
+    returns-3
+    returns-4
+    returns-5
+    returns-6
+    returns-7
+    returns-8
+    returns-9)

@@ -1,0 +1,44 @@
+-- Predicates as counters: how a count is stored, and how a counter is read. An element of 2 ^ k bits belongs to the size whose `shift` is k.
+use Prim.Native.Nat.{ℕ, suc, _+_, _-_, _*_, _/_, _^_}
+use mathlib.Core.Bool.{Bool, true, false, not, _&&_}
+use lib.Dec.{ltb, eqb}
+use Rattle.bits.specs.Bits.{number}
+use Rattle.bits.specs.Choice.{pick, digit}
+use Rattle.bits.specs.Search.{firstFrom}
+use Rattle.predicates.specs.declared.Flags.{Flags}
+use Rattle.predicates.specs.declared.Predicate.{Predicate}
+use Rattle.predicates.specs.Predicate.{bitAt, spread, predicateLength}
+
+-- bit 15 is the inversion; below it the count stands above the mark 1, 10, 100, 1000
+abbrev pub stored : Bool → ℕ → ℕ → ℕ
+stored inverted n k = digit inverted * 2 ^ 15 + (n * 2 + 1) * 2 ^ k
+
+-- the counter of a group of g elements of which n are true: with n = 0 all zero; counting down, inverted g - n; counting up
+-- with n = g, inverted 0; else n
+unfoldable pub counterOf : Bool → ℕ → ℕ → ℕ → ℕ
+counterOf up g n k = pick (eqb n 0) 0 (pick up (pick (eqb n g) (stored true 0 k) (stored false n k)) (stored true (g - n) k))
+
+-- up: N is n ≠ 0, Z is n = 0, C is n ≠ g; down: N is n = g, Z is n = 0, C is n = 0
+unfoldable pub counterFlags : Bool → ℕ → ℕ → Flags
+counterFlags up g n = record {
+  n = pick up (not (eqb n 0)) (eqb n g);
+  z = eqb n 0;
+  c = pick up (not (eqb n g)) (eqb n 0);
+  v = false;
+}
+
+-- the mark: the lowest of the low four bits that is set, and so the size's k; 4 if none is
+abbrev pub markOf : Predicate → ℕ
+markOf p = firstFrom (bitAt p) 0 4
+
+-- the count: every bit above the mark up to bit 14
+abbrev pub countAbove : ℕ → Predicate → ℕ
+countAbove j p = number (bitAt p) (suc j) (14 - j)
+
+-- of the 4 E elements of the mark's size those below the count, all flipped if bit 15 is set
+abbrev pub counterElement : ℕ → ℕ → Predicate → ℕ → Bool
+counterElement vl j p e = ltb e (4 * (predicateLength vl / 2 ^ j)) && pick (bitAt p 15) (not (ltb e (countAbove j p))) (ltb e (countAbove j p))
+
+-- the counter expanded: true at the lowest bit of each of those elements; no element if there is no mark
+unfoldable pub expanded : ℕ → Predicate → ℕ → Bool
+expanded vl p b = ltb (markOf p) 4 && spread (markOf p) (counterElement vl (markOf p) p) b

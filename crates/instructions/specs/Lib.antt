@@ -1,0 +1,5 @@
+pub mod Effect
+pub mod While
+pub mod Counter
+pub mod Instructions
+pub mod Registers

@@ -1,0 +1,70 @@
+// PNEXT, PFIRST, PTEST and PFALSE.
+use super::Effect;
+use super::write::writes_p;
+use bits::Size;
+use predicates::Predicate;
+ghost use mathlib.Core.Path.{_≡_};
+ghost use Rattle.predicates.specs.Predicate.{allFalse};
+ghost use Rattle.instructions.specs.Effect.{writesP, writesF};
+ghost use Rattle.instructions.specs.Instructions.{nextElement, nextOf, firstOf, pnext as pnextOf, pfirst as pfirstOf, ptest as ptestOf};
+
+// The element that becomes the only true one, or the number of elements.
+pub fn next_element(size: Size, v: Predicate, dn: Predicate, vl: u64) -> u64
+    ensures { λ r. ⌜ r ≡ nextElement size v dn vl ⌝ }
+{
+    v.next_active(
+        size,
+        dn.after_last(vl, size),
+        predicates::elements(vl, size),
+    )
+}
+
+fn next(size: Size, v: Predicate, dn: Predicate, vl: u64) -> Predicate
+    ensures { λ r. ⌜ r ≡ nextOf size v dn vl ⌝ }
+{
+    let e = next_element(size, v, dn, vl);
+    if e < predicates::elements(vl, size) {
+        return Predicate::only_element(size, e);
+    }
+    Predicate::none()
+}
+
+pub fn pnext(size: Size, pdn: u8, v: Predicate, dn: Predicate, vl: u64) -> Effect
+    ensures { λ e. ⌜ e ≡ pnextOf size pdn v dn vl ⌝ }
+{
+    let q = next(size, v, dn, vl);
+    writes_p(pdn as u64, q, predicates::pred_test(v, q, vl, size))
+}
+
+fn first(g: Predicate, dn: Predicate, vl: u64) -> Predicate
+    ensures { λ r. ⌜ r ≡ firstOf g dn vl ⌝ }
+{
+    let e = g.and(Predicate::live(vl, Size::B)).lowest();
+    if e < 256 {
+        return dn.or(Predicate::only(e));
+    }
+    dn
+}
+
+pub fn pfirst(pdn: u8, g: Predicate, dn: Predicate, vl: u64) -> Effect
+    ensures { λ e. ⌜ e ≡ pfirstOf pdn g dn vl ⌝ }
+{
+    let q = first(g, dn, vl);
+    writes_p(pdn as u64, q, predicates::pred_test(g, q, vl, Size::B))
+}
+
+pub fn ptest(g: Predicate, n: Predicate, vl: u64) -> Effect
+    ensures { λ e. ⌜ e ≡ ptestOf g n vl ⌝ }
+{
+    writes_p(
+        16,
+        Predicate::none(),
+        predicates::pred_test(g, n, vl, Size::B),
+    )
+}
+
+pub fn pfalse(pd: u8) -> Effect
+    ensures { λ e. ⌜ e ≡ writesP pd allFalse ⌝ }
+{
+    writes_p(pd as u64, Predicate::none(), 16)
+}

@@ -1,0 +1,41 @@
+-- One step, and a run of steps.
+use Prim.Native.Nat.{ℕ, suc}
+use mathlib.Core.Bool.{Bool}
+use mathlib.Core.List.{List, [], _∷_}
+use lib.Dec.{ltb}
+use Rattle.bits.specs.Choice.{pick}
+use Rattle.registers.specs.declared.Reply.{Reply}
+use Rattle.registers.specs.declared.Reply.the-variants.{Done, LevelTooLow, AccessOff, IllegalState}
+use Rattle.registers.specs.declared.State.{State}
+use Rattle.registers.specs.Legal.{legal}
+use Rattle.registers.specs.State.{readX, readP}
+use Rattle.words.specs.declared.Decoded.{Decoded}
+use Rattle.words.specs.declared.Decoded.the-variants.{Ours, Refused}
+use Rattle.words.specs.declared.Instruction.{Instruction}
+use Rattle.words.specs.Words.{decodeOf, levelOf}
+use Rattle.instructions.specs.declared.Effect.{Effect}
+use Rattle.machine.specs.declared.Stepped.{Stepped}
+use Rattle.machine.specs.declared.Ran.{Ran}
+use Rattle.machine.specs.Effect.{apply}
+use Rattle.instructions.specs.Instructions.{computeOf}
+use Rattle.instructions.specs.Registers.{firstX, secondX, firstP, secondP}
+
+-- an instruction reads all its registers before it writes any
+unfoldable pub effectOf : State → Instruction → Effect
+effectOf s i = computeOf i (readX s (firstX i)) (readX s (secondX i)) (readP s (firstP i)) (readP s (secondP i)) (s .vl)
+
+unfoldable pub executeOf : State → Instruction → State
+executeOf s i = apply s (effectOf s i)
+
+-- a refusal returns the state that it was given
+abbrev pub answered : Reply → State → Stepped
+answered r s = record { reply = r; state = s }
+
+-- the refusals 1, 2 and 3, in this order, and then the instruction
+unfoldable pub afterWord : State → Decoded → Stepped
+afterWord s (Refused r) = answered r s
+afterWord s (Ours i) = pick (ltb (s .level) (levelOf i)) (answered LevelTooLow s) (pick (s .access) (answered Done (executeOf s i)) (answered AccessOff s))
+
+-- 4 comes first
+unfoldable pub stepOf : State → ℕ → Stepped
+stepOf s w = pick (legal s) (afterWord s (decodeOf w)) (answered IllegalState s)
