@@ -2,12 +2,13 @@
 use Prim.Native.Nat.{ℕ, suc}
 use mathlib.Core.Bool.{Bool}
 use mathlib.Core.List.{List, [], _∷_}
-use lib.Dec.{ltb}
+use lib.Dec.{ltb, eqb}
 use Rattle.bits.specs.Choice.{pick}
 use Rattle.registers.specs.declared.Reply.{Reply}
 use Rattle.registers.specs.declared.Reply.the-variants.{Done, LevelTooLow, AccessOff, IllegalState}
 use Rattle.registers.specs.declared.State.{State}
 use Rattle.registers.specs.Legal.{legal}
+use Rattle.registers.specs.Reply.{numberOf}
 use Rattle.registers.specs.State.{readX, readP}
 use Rattle.words.specs.declared.Decoded.{Decoded}
 use Rattle.words.specs.declared.Decoded.the-variants.{Ours, Refused}
@@ -39,3 +40,14 @@ afterWord s (Ours i) = pick (ltb (s .level) (levelOf i)) (answered LevelTooLow s
 -- 4 comes first
 unfoldable pub stepOf : State → ℕ → Stepped
 stepOf s w = pick (legal s) (afterWord s (decodeOf w)) (answered IllegalState s)
+
+-- the words stepped one after the other, until one is refused; `done` were executed before
+unfoldable pub stepsOf : ℕ → State → List ℕ → Ran
+stepsOf done s [] = record { done = done; reply = Done; state = s }
+stepsOf done s (w ∷ ws) =
+    let t = stepOf s w in
+    pick (eqb (numberOf (t .reply)) 0) (stepsOf (suc done) (t .state) ws) (record { done = done; reply = t .reply; state = t .state })
+
+-- a run refuses an illegal state, whatever the words
+unfoldable pub runOf : State → List ℕ → Ran
+runOf s ws = pick (legal s) (stepsOf 0 s ws) (record { done = 0; reply = IllegalState; state = s })

@@ -42,14 +42,14 @@ impl State {
         }
     }
 
-    pub fn read_x(self, r: u8) -> u64
+    pub fn read_x(self, r: u64) -> u64
         ensures { λ v. ⌜ v ≡ readX self r ⌝ }
     {
         let i = r as usize;
         if i < 31 { self.x[i] } else { 0 }
     }
 
-    pub fn read_p(self, r: u8) -> Predicate
+    pub fn read_p(self, r: u64) -> Predicate
         ensures { λ q. ⌜ q ≡ readP self r ⌝ }
     {
         let i = r as usize;
@@ -59,7 +59,7 @@ impl State {
         Predicate::none()
     }
 
-    pub fn with_x(mut self, r: u8, v: u64) -> State
+    pub fn with_x(mut self, r: u64, v: u64) -> State
         ensures { λ s. ⌜ s ≡ withX self r v ⌝ }
     {
         let i = r as usize;
@@ -69,7 +69,7 @@ impl State {
         self
     }
 
-    pub fn with_p(mut self, r: u8, q: Predicate) -> State
+    pub fn with_p(mut self, r: u64, q: Predicate) -> State
         ensures { λ s. ⌜ s ≡ withP self r q ⌝ }
     {
         let i = r as usize;

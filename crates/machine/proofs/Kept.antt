@@ -1,0 +1,180 @@
+-- A legal state stays legal. Assumes nothing.
+use mathlib.Core.Bool.{Bool, true, false, _&&_, _||_}
+use mathlib.Core.Path.{_≡_, refl, ap, ap₂, _∙_}
+use Prim.Native.Nat.{ℕ, _+_, _-_, _*_, _^_, _≤_, _<_}
+use native.Mathlib.Decide.{decLt}
+use native.Mathlib.Nat.{mul-assoc, mul-le-mul-right, lt-of-lt-of-le, mul-one}
+use native.Mathlib.Omega.{arith}
+use lib.Dec.{ltb, eqb}
+use lib.ListN.{List·getD-eq-default}
+use lib.Pow.{pow-mono}
+use mir.Syntax.{w64}
+use borrow.Author.Tests.{le-ltb, ne-eqb, eqb-false, ltb-true}
+use Rattle.bits.specs.declared.Size.{Size}
+use Rattle.bits.specs.declared.Size.the-variants as Sz
+use Rattle.bits.specs.Choice.{pick}
+use Rattle.bits.specs.Search.{firstFrom}
+use Rattle.bits.specs.Size.{shift}
+use Rattle.bits.proofs.Searches.{digit-lt}
+use Rattle.predicates.specs.declared.Predicate.{Predicate}
+use Rattle.predicates.specs.PredTest.{flagsOf}
+use Rattle.predicates.specs.Predicate.{pack, allFalse, active, spread, elements, predicateLength, hasBitFrom}
+use Rattle.predicates.proofs.Lengths.{length-quads}
+use Rattle.predicates.proofs.Live.{elements-fit, elements-within}
+use Rattle.predicates.proofs.Spans.{spread-within, none-within, within-none, word-within, false-within}
+use Rattle.registers.specs.declared.State.{State}
+use Rattle.registers.specs.Legal.{legal}
+use Rattle.registers.specs.State.{readX, readP, withX, withP, withFlags}
+use Rattle.registers.proofs.Legality.{legal-has, quads, withX-legal, withP-legal, withFlags-legal}
+use Rattle.registers.proofs.Registers.{Sized}
+use Rattle.words.specs.declared.Condition.{Condition}
+use Rattle.words.specs.declared.Instruction.{Instruction}
+use Rattle.words.specs.declared.Instruction.the-variants.{While, Saturating, IncDec, Cntp, CntpCounter, Pnext, Pfirst, Ptest, Pfalse}
+use Rattle.words.specs.declared.Target.{Target}
+use Rattle.words.specs.declared.Target.the-variants.{One, Pair, Counter}
+use Rattle.instructions.specs.declared.Effect.{Effect}
+use Rattle.instructions.specs.Counter.{stored, counterOf}
+use Rattle.instructions.specs.Instructions.{whileOne, whilePair, whileCounter, whileOf, groupOf, incDec, saturatingIncDec, cntp, cntpCounter, nextElement, nextOf, pnext, firstOf, pfirst, ptest, computeOf}
+use Rattle.instructions.specs.While.{allHeld, whileElement, lowHalf, highHalf}
+use Rattle.scalars.specs.While.{upward, comparison, heldOf}
+use Rattle.instructions.proofs.Whiles.{held-le}
+use Rattle.machine.specs.Effect.{setFlags, apply}
+use Rattle.machine.specs.Step.{effectOf, executeOf}
+use Rattle.machine.proofs.Frame.{flags-settings}
+
+-- the predicates of an effect have no bit at or above PL
+pub record Within (vl : ℕ) (e : Effect) : Type 0 where
+  pub predicate : hasBitFrom (predicateLength vl) (e .predicate) ≡ false
+  pub other : hasBitFrom (predicateLength vl) (e .other) ≡ false
+
+-- ---- predicates made of at most E elements
+
+elements-in : (vl : ℕ) (size : Size) (q : ℕ → Bool) → ((e : ℕ) → elements vl size ≤ e → q e ≡ false) → hasBitFrom (predicateLength vl) (pack (spread (shift size) q)) ≡ false
+elements-in vl size q past = spread-within (shift size) (elements vl size) (predicateLength vl) q (elements-within vl size) past
+
+while-past : (up : Bool) (held : ℕ → Bool) (n e : ℕ) → n ≤ e → whileElement up held n e ≡ false
+unfolding whileElement
+while-past up held n e h = ap (λ (t : Bool). t && allHeld held (pick up e (n - 1 - e))) (le-ltb e n h)
+
+low-past : (n : ℕ) (q : ℕ → Bool) (e : ℕ) → n ≤ e → lowHalf n q e ≡ false
+low-past n q e h = ap (λ (t : Bool). t && q e) (le-ltb e n h)
+
+high-past : (n : ℕ) (q : ℕ → Bool) (e : ℕ) → n ≤ e → highHalf n q e ≡ false
+high-past n q e h = ap (λ (t : Bool). t && q (n + e)) (le-ltb e n h)
+
+-- ---- counters: below 2 ^ 16, and PL is at least 16
+
+stored-lt : (inverted : Bool) (n e k : ℕ) → n < 4 * e → e * 2 ^ k ≤ 256 → stored inverted n k < 2 ^ 16
+stored-lt inverted n e k h f =
+    let wide : (n * 2 + 1) * 2 ^ k ≤ 8 * e * 2 ^ k = mul-le-mul-right (2 ^ k) (omega arith) in
+    let same : 8 * e * 2 ^ k ≡ 8 * (e * 2 ^ k) = mul-assoc 8 e (2 ^ k) in
+    omega (arith, digit-lt inverted)
+
+group-le : (four : Bool) (n : ℕ) → groupOf four n ≤ 4 * n
+group-le true n = omega arith
+group-le false n = omega arith
+
+counter-lt : (up : Bool) (g n e k : ℕ) → n ≤ g → g ≤ 4 * e → e * 2 ^ k ≤ 256 → counterOf up g n k < 2 ^ 16
+unfolding counterOf
+counter-lt up g n e k h l f = go (eqb n 0) refl up (eqb n g) refl
+  where
+    go : (z : Bool) → eqb n 0 ≡ z → (u t : Bool) → eqb n g ≡ t → pick z 0 (pick u (pick t (stored true 0 k) (stored false n k)) (stored true (g - n) k)) < 2 ^ 16
+    go true ez u t et = omega arith
+    go false ez true true et = stored-lt true 0 e k (omega (arith, eqb-false n 0 ez)) f
+    go false ez true false et = stored-lt false n e k (omega (arith, eqb-false n g et)) f
+    go false ez false t et = stored-lt true (g - n) e k (omega (arith, eqb-false n 0 ez)) f
+
+-- ---- each instruction
+
+module _ (s : State) (ok : legal s ≡ true) (sized : Sized s) where
+  pl-large : 16 ≤ predicateLength (s .vl)
+  pl-large =
+      let (q, e, low, high) = quads (s .vl) (legal-has s ok .len) in
+      omega (arith, ap predicateLength e ∙ length-quads q high)
+
+  read-within : (r : ℕ) → hasBitFrom (predicateLength (s .vl)) (readP s r) ≡ false
+  read-within r =
+      elim (decLt r 16) [
+        | yes l ↦ legal-has s ok .bits r l
+        | no l ↦ ap (hasBitFrom (predicateLength (s .vl))) (List·getD-eq-default (s .p) allFalse (omega (arith, sized .ps))) ∙ false-within (predicateLength (s .vl))
+      ]
+
+  none : hasBitFrom (predicateLength (s .vl)) allFalse ≡ false
+  none = false-within (predicateLength (s .vl))
+
+  while-within : (c : Condition) (u : Bool) (t : Target) (size : Size) (a b : ℕ) → Within (s .vl) (whileOf c u t size a b (s .vl))
+  unfolding whileOne whilePair whileCounter
+  while-within c u (One sf pd) size a b = record { predicate = elements-in (s .vl) size _ (λ e h. while-past _ _ _ e h); other = none }
+  while-within c u (Pair pd) size a b =
+      let n = elements (s .vl) size in
+      let q = whileElement (upward c) (comparison w64 u c a b) (2 * n) in
+      record { predicate = elements-in (s .vl) size _ (low-past n q); other = elements-in (s .vl) size _ (high-past n q) }
+  while-within c u (Counter four pnd) size a b =
+      let n = elements (s .vl) size in
+      let g = groupOf four n in
+      let count-lt = counter-lt (upward c) g (heldOf (comparison w64 u c a b) g) n (shift size) (held-le (comparison w64 u c a b) g) (group-le four n) (elements-fit (s .vl) size) in
+      record { predicate = word-within (predicateLength (s .vl)) _ (lt-of-lt-of-le count-lt (pow-mono {i = 16} {j = predicateLength (s .vl)} pl-large)); other = none }
+
+  next-within : (size : Size) (v dn : Predicate) → hasBitFrom (predicateLength (s .vl)) (nextOf size v dn (s .vl)) ≡ false
+  next-within size v dn = go (ltb (nextElement size v dn (s .vl)) (elements (s .vl) size)) refl
+    where
+      go : (t : Bool) → ltb (nextElement size v dn (s .vl)) (elements (s .vl) size) ≡ t → hasBitFrom (predicateLength (s .vl)) (nextOf size v dn (s .vl)) ≡ false
+      go true e = rw e (elements-in (s .vl) size _ (λ i h. ne-eqb i (nextElement size v dn (s .vl)) (omega (arith, ltb-true (nextElement size v dn (s .vl)) (elements (s .vl) size) e))))
+      go false e = rw e none
+
+  first-within : (g : Predicate) (r : ℕ) → hasBitFrom (predicateLength (s .vl)) (firstOf g (readP s r) (s .vl)) ≡ false
+  first-within g r = go (ltb (firstFrom (active 0 g) 0 (elements (s .vl) Sz.B)) (elements (s .vl) Sz.B)) refl
+    where
+      past-pl : (b : ℕ) → predicateLength (s .vl) ≤ b → ltb (firstFrom (active 0 g) 0 (elements (s .vl) Sz.B)) (elements (s .vl) Sz.B) ≡ true
+          → b ≡ firstFrom (active 0 g) 0 (elements (s .vl) Sz.B) → ⊥
+      past-pl b l t h = omega (arith, ltb-true (firstFrom (active 0 g) 0 (elements (s .vl) Sz.B)) (elements (s .vl) Sz.B) t, elements-within (s .vl) Sz.B, mul-one (elements (s .vl) Sz.B))
+
+      go : (t : Bool) → ltb (firstFrom (active 0 g) 0 (elements (s .vl) Sz.B)) (elements (s .vl) Sz.B) ≡ t → hasBitFrom (predicateLength (s .vl)) (firstOf g (readP s r) (s .vl)) ≡ false
+      go true e = rw e (none-within (predicateLength (s .vl)) _ (λ b l m. ap₂ _||_ (within-none (predicateLength (s .vl)) (readP s r) (read-within r) b l m) (ne-eqb b (firstFrom (active 0 g) 0 (elements (s .vl) Sz.B)) (past-pl b l e))))
+      go false e = rw e (read-within r)
+
+  pub effect-within : (i : Instruction) → Within (s .vl) (effectOf s i)
+  unfolding effectOf computeOf incDec saturatingIncDec cntp cntpCounter pnext pfirst ptest
+  effect-within (While c u t size rn rm) = while-within c u t size (readX s rn) (readX s rm)
+  effect-within (Saturating d u sf size pm rdn) = record { predicate = none; other = none }
+  effect-within (IncDec d size pm rdn) = record { predicate = none; other = none }
+  effect-within (Cntp size pg pn rd) = record { predicate = none; other = none }
+  effect-within (CntpCounter four size pnn rd) = record { predicate = none; other = none }
+  effect-within (Pnext size pv pdn) = record { predicate = next-within size (readP s pv) (readP s pdn); other = none }
+  effect-within (Pfirst pg pdn) = record { predicate = first-within (readP s pg) pdn; other = none }
+  effect-within (Ptest pg pn) = record { predicate = none; other = none }
+  effect-within (Pfalse pd) = record { predicate = none; other = none }
+
+-- ---- an effect within PL keeps legality
+
+flags-legal : (s : State) (f : ℕ) → legal (setFlags s f) ≡ legal s
+unfolding setFlags
+flags-legal s f = go (ltb f 16)
+  where
+    go : (b : Bool) → legal (pick b (withFlags s (flagsOf f)) s) ≡ legal s
+    go true = withFlags-legal s (flagsOf f)
+    go false = refl
+
+written-vl : (s : State) (f r v : ℕ) → withX (setFlags s f) r v .vl ≡ s .vl
+unfolding withX
+written-vl s f r v = flags-settings s f .vl
+
+written-p : (t : State) (r : ℕ) (q : Predicate) → withP t r q .vl ≡ t .vl
+unfolding withP
+written-p t r q = refl
+
+pub apply-legal : (s : State) (e : Effect) → legal s ≡ true → Within (s .vl) e → legal (apply s e) ≡ true
+unfolding apply
+apply-legal s e h k =
+    let t = withX (setFlags s (e .flags)) (e .x) (e .value) in
+    let same : t .vl ≡ s .vl = written-vl s (e .flags) (e .x) (e .value) in
+    let first : legal (withP t (e .p) (e .predicate)) ≡ true =
+    withP-legal t (e .p) (e .predicate) (ap (λ (v : ℕ). hasBitFrom (predicateLength v) (e .predicate)) same ∙ k .predicate)
+    (withX-legal (setFlags s (e .flags)) (e .x) (e .value) ∙ flags-legal s (e .flags) ∙ h) in
+    withP-legal (withP t (e .p) (e .predicate)) (e .second) (e .other)
+    (ap (λ (v : ℕ). hasBitFrom (predicateLength v) (e .other)) (written-p t (e .p) (e .predicate) ∙ same) ∙ k .other) first
+
+-- an accepted step leaves a legal state legal
+pub execute-legal : (s : State) (i : Instruction) → Sized s → legal s ≡ true → legal (executeOf s i) ≡ true
+unfolding executeOf
+execute-legal s i sized ok = apply-legal s (effectOf s i) ok (effect-within s ok sized i)
