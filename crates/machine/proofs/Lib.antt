@@ -2,3 +2,4 @@
 pub mod Frame
 pub mod Kept
 pub mod Steps
+pub mod Examples
