@@ -8,6 +8,7 @@ mod read;
 mod write;
 
 pub use read::decode;
+pub use read::size_of;
 pub use write::encode;
 
 // The comparison of a WHILE.

@@ -10,7 +10,8 @@ ghost use lib.ListN.{drop};
 ghost use Rattle.words.specs.Layout.{slice};
 ghost use Rattle.words.specs.Words.{Form, conditionOf, sizeOf, flag, forms, reads, readAs, firstOf, decodeOf};
 
-fn size_of(n: u32) -> Size
+// Size 00 to 11; a larger number is taken for 11.
+pub fn size_of(n: u32) -> Size
     ensures { λ r. ⌜ r ≡ sizeOf n ⌝ }
 {
     match n {

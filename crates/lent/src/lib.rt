@@ -1,0 +1,15 @@
+// One step over a lent state, with the meaning of the step by value.
+ghost use mathlib.Core.Path.{_≡_};
+ghost use Rattle.machine.specs.Step.{stepOf};
+use machine::Machine;
+use registers::Reply;
+use registers::State;
+
+pub fn step(s: &mut State, word: u32) -> Reply
+    ensures { λ r. ⌜ (r ≡ stepOf (now (s .entry)) word .reply) × (now (s .exit) ≡ stepOf (now (s .entry)) word .state) ⌝ }
+{
+    let t = *s;
+    let r = Machine { state: t }.step(word);
+    *s = r.state;
+    r.reply
+}

@@ -1,0 +1,118 @@
+-- What holds of a walk that is not refused, and what it answers. Assumes nothing.
+use mathlib.Core.Bool.{Bool, true, false, not, _||_}
+use mathlib.Core.List.{List}
+use mathlib.Core.Path.{_≡_, refl, sym, ap, _∙_}
+use Prim.Native.Nat.{ℕ, _^_, _<_}
+use native.Mathlib.Omega.{arith}
+use lib.Dec.{ltb, eqb}
+use lib.ListN.{length, getD}
+use mir.Syntax.{w64}
+use mir.Val.{Fits}
+use borrow.Author.Tests.{ltb-false, eqb-false, ne-eqb}
+use Rattle.bits.specs.declared.Size.{Size}
+use Rattle.bits.specs.Choice.{pick}
+use Rattle.bits.proofs.Searches.{never}
+use Rattle.predicates.specs.Predicate.{elements}
+use Rattle.predicates.proofs.Lengths.{elements-pos}
+use Rattle.registers.specs.declared.Reply.{Reply}
+use Rattle.registers.specs.declared.Reply.the-variants as R
+use Rattle.registers.specs.declared.State.{State}
+use Rattle.registers.specs.Legal.{legal}
+use Rattle.registers.specs.Reply.{numberOf}
+use Rattle.registers.specs.State.{readX}
+use Rattle.registers.proofs.Legality.{legal-has, quads}
+use Rattle.words.specs.Words.{sizeOf}
+use Rattle.walk.specs.Plain.{run, begin}
+use Rattle.walk.specs.Walk.{Within, machineOf, walked, badRegisters, distance, refusalOf, wholeOf, walkOf}
+
+-- 0 is the number of one reply
+pub number-done : (r : Reply) → numberOf r ≡ 0 → r ≡ R.Done
+number-done R.Done e = refl
+number-done R.UnknownWord e = absurd (omega arith)
+number-done R.LevelTooLow e = absurd (omega arith)
+number-done R.AccessOff e = absurd (omega arith)
+number-done R.IllegalState e = absurd (omega arith)
+number-done R.ImageCut e = absurd (omega arith)
+number-done R.NotAllowed e = absurd (omega arith)
+number-done R.TrailingBytes e = absurd (omega arith)
+number-done R.BufferTooSmall e = absurd (omega arith)
+number-done R.FieldPastRange e = absurd (omega arith)
+number-done R.BadWalkRegisters e = absurd (omega arith)
+number-done R.ListTooShort e = absurd (omega arith)
+number-done R.BudgetSpent e = absurd (omega arith)
+
+past : (b : Bool) (r x : Reply) → 0 < numberOf r → pick b r x ≡ R.Done → (b ≡ false) × (x ≡ R.Done)
+past true r x h e = absurd (omega (arith, ap numberOf e))
+past false r x h e = (refl, e)
+
+neither : (a b : Bool) → (a || b) ≡ false → (a ≡ false) × (b ≡ false)
+neither true b e = never refl e
+neither false b e = (refl, e)
+
+not-false : (b : Bool) → not b ≡ false → b ≡ true
+not-false true e = refl
+not-false false e = sym e
+
+pub x-fits : (s : State) → ((i : ℕ) → Fits w64 (getD (s .x) i 0)) → (i : ℕ) → readX s i < 2 ^ 64
+x-fits s h i = h i .fits
+
+lanes-there : (s : State) (size : Size) → legal s ≡ true → 0 < elements (s .vl) size
+lanes-there s size h =
+    let q = quads (s .vl) (legal-has s h .len) in
+    rw (q .1) (elements-pos (q .0) size (q .2) (q .3))
+
+pub accepted-within : (size n m d k : ℕ) (s : State) (l : List ℕ) → refusalOf size n m d k s (length l) ≡ R.Done → length (s .x) ≡ 31 → length (s .p) ≡ 16
+    → ((i : ℕ) → readX s i < 2 ^ 64) → Within (sizeOf size) n m d k s l
+unfolding refusalOf badRegisters
+accepted-within size n m d k s l e xs ps fits =
+    let a = past (not (legal s)) R.IllegalState _ (omega arith) e in
+    let b = past (badRegisters size n m d k) R.BadWalkRegisters _ (omega arith) (a .1) in
+    let level = past (eqb (s .level) 0) R.LevelTooLow _ (omega arith) (b .1) in
+    let access = past (not (s .access)) R.AccessOff _ (omega arith) (level .1) in
+    let room = past (ltb (length l) (distance n m s)) R.ListTooShort R.Done (omega arith) (access .1) in
+    let n₁ = neither (ltb 31 n) _ (b .0) in
+    let m₁ = neither (ltb 31 m) _ (n₁ .1) in
+    let d₁ = neither (ltb 15 d) _ (m₁ .1) in
+    let k₁ = neither (ltb 15 k) _ (d₁ .1) in
+    let z₁ = neither (ltb 3 size) _ (k₁ .1) in
+    let n₂ = neither (eqb n 31) _ (z₁ .1) in
+    let nm = neither (eqb n m) (eqb d k) (n₂ .1) in
+    let zero : n ≡ 31 → ⊥ = eqb-false n 31 (n₂ .0) in
+    record {
+      n-below = omega (arith, ltb-false 31 n (n₁ .0), zero);
+      other-x = λ q. eqb-false n m (nm .0) (sym q);
+      d-below = omega (arith, ltb-false 15 d (d₁ .0));
+      k-below = omega (arith, ltb-false 15 k (k₁ .0));
+      other-p = eqb-false d k (nm .1);
+      xs = xs;
+      ps = ps;
+      lanes = lanes-there s (sizeOf size) (not-false (legal s) (a .0));
+      start-fits = fits n;
+      limit-fits = fits m;
+      room = ltb-false (length l) (distance n m s) (room .0);
+    }
+
+-- ---- what is answered
+
+module _ (size n m d k budget : ℕ) (s : State) (l : List ℕ) where
+  abbrev refused : Reply
+  refused = refusalOf size n m d k s (length l)
+
+  pub whole-refused : (numberOf (refusalOf size n m d k s (length l)) ≡ 0 → ⊥) → wholeOf size n m d k budget s l .list ≡ l
+  unfolding wholeOf
+  whole-refused h = ap (λ (b : Bool). pick b (run (machineOf (sizeOf size) n m d k) budget (begin s l)) (begin s l) .list) (ne-eqb (numberOf refused) 0 h)
+
+  pub answer-refused : (r : Reply) → r ≡ refusalOf size n m d k s (length l) → (numberOf r ≡ 0 → ⊥) → record { reply = r; count = 0; state = s } ≡ walkOf size n m d k budget s l
+  unfolding walkOf
+  answer-refused r e h =
+      ap (λ (q : Reply). record { reply = q; count = 0; state = s }) e
+      ∙ sym (ap (λ (b : Bool). pick b (walked (wholeOf size n m d k budget s l)) (record { reply = refused; count = 0; state = s })) (ne-eqb (numberOf refused) 0 (λ q. h (ap numberOf e ∙ q))))
+
+  pub whole-accepted : refusalOf size n m d k s (length l) ≡ R.Done → wholeOf size n m d k budget s l ≡ run (machineOf (sizeOf size) n m d k) budget (begin s l)
+  unfolding wholeOf
+  whole-accepted e = ap (λ (r : Reply). pick (eqb (numberOf r) 0) (run (machineOf (sizeOf size) n m d k) budget (begin s l)) (begin s l)) e
+
+  pub answer-accepted : refusalOf size n m d k s (length l) ≡ R.Done → walkOf size n m d k budget s l ≡ walked (run (machineOf (sizeOf size) n m d k) budget (begin s l))
+  unfolding walkOf
+  answer-accepted e =
+      ap (λ (r : Reply). pick (eqb (numberOf r) 0) (walked (wholeOf size n m d k budget s l)) (record { reply = r; count = 0; state = s })) e ∙ ap walked (whole-accepted e)

@@ -1,0 +1,126 @@
+-- The walk's four instructions, each as what it writes. Assumes nothing.
+use mathlib.Core.Bool.{Bool, true, false, not}
+use mathlib.Core.Path.{_≡_, sym, ap, ap₂, _∙_}
+use Prim.Native.Nat.{ℕ, zero, suc, _+_, _-_, _%_, _^_, _≤_, _<_, min}
+use native.Mathlib.Nat.{add-zero, mod-eq-of-lt}
+use native.Mathlib.Omega.{arith}
+use lib.Dec.{ltb}
+use lib.ListN.{length, length-set}
+use mir.Syntax.{w64}
+use borrow.Author.Tests.{lt-ltb, le-ltb}
+use Rattle.bits.specs.declared.Size.{Size}
+use Rattle.bits.specs.Search.{count}
+use Rattle.bits.specs.Size.{shift}
+use Rattle.bits.proofs.Searches.{digit-lt, first-is}
+use Rattle.predicates.specs.declared.Flags.{Flags}
+use Rattle.predicates.specs.declared.Predicate.{Predicate}
+use Rattle.predicates.specs.PredTest.{predTest, nzcv}
+use Rattle.predicates.specs.Predicate.{allFalse, active, between, spanOf, spread, pack, elements}
+use Rattle.predicates.proofs.Flagging.{flags-back}
+use Rattle.registers.specs.declared.State.{State}
+use Rattle.registers.specs.State.{readX, readP, withX, withP, withFlags}
+use Rattle.registers.proofs.Registers.{Sized, withX-out, withP-out}
+use Rattle.words.specs.declared.Condition.the-variants.{Less}
+use Rattle.words.specs.declared.Instruction.the-variants.{While, IncDec, Pnext, Pfalse}
+use Rattle.words.specs.declared.Target.the-variants.{One}
+use Rattle.machine.specs.Effect.{setFlags, apply}
+use Rattle.machine.specs.Step.{effectOf, executeOf}
+use Rattle.machine.proofs.Frame.{flags-some}
+use Rattle.instructions.specs.Effect.{writesX, writesP, writesPF}
+use Rattle.instructions.specs.Instructions.{whileOne, incDec, nextOf, pnext, computeOf}
+use Rattle.instructions.specs.While.{whileElement, every}
+use Rattle.scalars.specs.Value.{lowOf}
+use Rattle.scalars.specs.While.{operandAt, comparison, heldOf}
+use Rattle.instructions.proofs.Whiles.{while-elements, span-flags, spanFlags}
+
+-- ---- effects written
+
+nzcv-lt : (f : Flags) → nzcv f < 16
+unfolding nzcv
+nzcv-lt f = omega (arith, digit-lt (f .n), digit-lt (f .z), digit-lt (f .c), digit-lt (f .v))
+
+flags-set : (s : State) (f : Flags) → setFlags s (nzcv f) ≡ withFlags s f
+flags-set s f = sym (flags-some s (withFlags s f) (nzcv f) (nzcv-lt f) (ap (withFlags s) (sym (flags-back f))))
+
+module _ (s : State) (z : Sized s) where
+  no-second : (t : State) → length (t .p) ≡ 16 → withP t 16 allFalse ≡ t
+  no-second t e = sym (withP-out t 16 allFalse (omega (arith, e)))
+
+  writes-x : (r v : ℕ) → apply s (writesX r v) ≡ withX s r v
+  unfolding apply setFlags withX
+  writes-x r v =
+      ap (λ (u : State). withP u 16 allFalse) (no-second (withX s r v) (z .ps)) ∙ no-second (withX s r v) (z .ps)
+
+  no-x : (f : Flags) → withX (withFlags s f) 31 0 ≡ withFlags s f
+  unfolding withFlags
+  no-x f = sym (withX-out (withFlags s f) 31 0 (omega (arith, z .xs)))
+
+  writes-p : (r : ℕ) (q : Predicate) → apply s (writesP r q) ≡ withP s r q
+  unfolding apply setFlags withP
+  writes-p r q =
+      ap (λ (u : State). withP (withP u r q) 16 allFalse) (sym (withX-out s 31 0 (omega (arith, z .xs))))
+      ∙ no-second (withP s r q) (length-set (s .p) r q ∙ z .ps)
+
+  writes-pf : (r : ℕ) (q : Predicate) (f : Flags) → apply s (writesPF r q f) ≡ withP (withFlags s f) r q
+  unfolding apply withP withFlags
+  writes-pf r q f =
+      ap (λ (u : State). withP (withP (withX u 31 0) r q) 16 allFalse) (flags-set s f) ∙ ap (λ (u : State). withP (withP u r q) 16 allFalse) (no-x f)
+      ∙ no-second (withP (withFlags s f) r q) (length-set (s .p) r q ∙ z .ps)
+
+-- ---- WHILELO's comparisons, where nothing wraps
+
+module _ (a b : ℕ) (fits : b < 2 ^ 64) where
+  operand-is : (e : ℕ) → e ≤ b - a → operandAt w64 true a e ≡ a + e
+  unfolding operandAt
+  operand-is zero h = sym (add-zero a)
+  operand-is (suc e) h =
+      let same : a + e + 1 ≡ a + suc e = omega arith in
+      ap (λ (x : ℕ). (x + 1) % 2 ^ 64) (operand-is e (omega arith)) ∙ ap (λ (x : ℕ). x % 2 ^ 64) same ∙ mod-eq-of-lt (omega arith)
+
+  compared : (e : ℕ) → e ≤ b - a → comparison w64 true Less a b e ≡ ltb (a + e) b
+  unfolding comparison
+  compared e h = ap (λ (x : ℕ). ltb x b) (operand-is e h)
+
+  -- they hold up to the limit
+  pub held-is : (n : ℕ) → heldOf (comparison w64 true Less a b) n ≡ min n (b - a)
+  held-is n =
+      sym (first-is (λ e. not (comparison w64 true Less a b e)) 0 n (min n (b - a)) record {
+        from = omega arith;
+        upto = omega arith;
+        none = λ e _ h. ap not (compared e (omega arith) ∙ lt-ltb (a + e) b (omega arith));
+        hit = λ h. ap not (compared (min n (b - a)) (omega arith) ∙ le-ltb (a + min n (b - a)) b (omega arith));
+      })
+
+-- ---- the four instructions
+
+module _ (s : State) (z : Sized s) (size : Size) where
+  pub executes-pfalse : (k : ℕ) → executeOf s (Pfalse k) ≡ withP s k allFalse
+  unfolding executeOf effectOf computeOf
+  executes-pfalse k = writes-p s z k allFalse
+
+  pub executes-whilelo : (n m d a b c : ℕ) → readX s n ≡ a → readX s m ≡ b → a < 2 ^ 64 → b < 2 ^ 64 → c ≡ min (elements (s .vl) size) (b - a)
+      → executeOf s (While Less true (One true d) size n m) ≡ withP (withFlags s (spanFlags true c (elements (s .vl) size))) d (spanOf (shift size) 0 c)
+  unfolding executeOf effectOf computeOf whileOne
+  executes-whilelo n m d a b c ea eb ha hb ec =
+      let E = elements (s .vl) size in
+      let held = comparison w64 true Less (lowOf w64 (readX s n)) (lowOf w64 (readX s m)) in
+      let low : (x y : ℕ) → x ≡ y → y < 2 ^ 64 → x % 2 ^ 64 ≡ y = λ x y e h. ap (λ (v : ℕ). v % 2 ^ 64) e ∙ mod-eq-of-lt h in
+      let is : c ≡ heldOf held E =
+      ec ∙ sym (held-is a b hb E) ∙ ap₂ (λ (x y : ℕ). heldOf (comparison w64 true Less x y) E) (sym (low _ a ea ha)) (sym (low _ b eb hb)) in
+      let q : whileElement true held E ≡ between 0 c = while-elements held E c is true in
+      writes-pf s z d _ _
+      ∙ ap₂ (λ (p : Predicate) (f : Flags). withP (withFlags s f) d p) (ap (λ (x : ℕ → Bool). pack (spread (shift size) x)) q)
+      (ap (λ (x : ℕ → Bool). predTest every x E) q ∙ span-flags true c E (omega (arith, ec)))
+
+  pub executes-pnext : (d k : ℕ) (v dn q : Predicate) → readP s d ≡ v → readP s k ≡ dn → q ≡ nextOf size v dn (s .vl)
+      → executeOf s (Pnext size d k) ≡ withP (withFlags s (predTest (active (shift size) v) (active (shift size) q) (elements (s .vl) size))) k q
+  unfolding executeOf effectOf computeOf pnext
+  executes-pnext d k v dn q ev en eq =
+      writes-pf s z k _ _
+      ∙ ap₂ (λ (x y : Predicate). withP (withFlags s (predTest (active (shift size) x) (active (shift size) (nextOf size x y (s .vl))) (elements (s .vl) size))) k (nextOf size x y (s .vl))) ev en
+      ∙ ap (λ (x : Predicate). withP (withFlags s (predTest (active (shift size) v) (active (shift size) x) (elements (s .vl) size))) k x) (sym eq)
+
+  pub executes-incp : (n d x : ℕ) → (readX s n + count (active (shift size) (readP s d)) (elements (s .vl) size)) % 2 ^ 64 ≡ x
+      → executeOf s (IncDec false size d n) ≡ withX s n x
+  unfolding executeOf effectOf computeOf incDec
+  executes-incp n d x e = writes-x s z n _ ∙ ap (withX s n) e

@@ -1,0 +1,9 @@
+-- Laws of the walk that other crates may use.
+pub mod Runs
+pub mod Closed
+pub mod Executed
+pub mod Lanes
+pub mod Demands
+pub mod Outcomes
+pub mod Accepted
+pub mod Examples

@@ -1,0 +1,48 @@
+-- Demand 3: what a walk that is not refused comes to.
+use Prim.Native.Nat.{ℕ, _+_, _≤_, _<_, max}
+use mathlib.Core.Bool.{true, false}
+use mathlib.Core.List.{List}
+use mathlib.Core.Path.{_≡_}
+use lib.ListN.{length, getD}
+use Rattle.bits.specs.declared.Size.{Size}
+use Rattle.predicates.specs.Predicate.{allFalse, elements}
+use Rattle.registers.specs.declared.Reply.the-variants.{Done, BudgetSpent}
+use Rattle.registers.specs.declared.State.{State}
+use Rattle.registers.specs.State.{readX, withX, withP, withFlags}
+use Rattle.walk.specs.declared.Walked.{Walked}
+use Rattle.walk.specs.Plain.{budgetFor, visited}
+use Rattle.walk.specs.Walk.{distance}
+
+-- D + 3 R + 2
+abbrev pub needed : Size → ℕ → ℕ → State → ℕ
+needed size n m s = budgetFor (distance n m s) (elements (s .vl) size)
+
+-- Xn is the larger of start and limit, Pd and Pk are false, flags are N0 Z1 C1 V0, and all else is as it was
+abbrev pub finalState : ℕ → ℕ → ℕ → ℕ → State → State
+finalState n m d k s =
+    withFlags (withP (withP (withX s n (max (readX s n) (readX s m))) d allFalse) k allFalse)
+    (record { n = false; z = true; c = true; v = false })
+
+-- a finished walk, with the list before and after
+pub record Finished (size : Size) (n m d k : ℕ) (s : State) (before after : List ℕ) (r : Walked) : Type 0 where
+  pub reply : r .reply ≡ Done
+  pub count : r .count ≡ needed size n m s
+  pub state : r .state ≡ finalState n m d k s
+  -- start, start + 1, .., limit - 1, ascending, each once
+  pub visits : (i : ℕ) → i < distance n m s → getD after i 0 ≡ readX s n + i
+  pub past : (i : ℕ) → distance n m s ≤ i → getD after i 0 ≡ getD before i 0
+
+-- a walk whose budget is spent: some positions are visited, in the same order
+pub record Spent (n m budget : ℕ) (s : State) (before after : List ℕ) (r : Walked) : Type 0 where
+  pub reply : r .reply ≡ BudgetSpent
+  pub count : r .count ≡ budget
+  pub used : ℕ
+  pub within : used ≤ distance n m s
+  pub visits : (i : ℕ) → i < used → getD after i 0 ≡ readX s n + i
+  pub past : (i : ℕ) → used ≤ i → getD after i 0 ≡ getD before i 0
+
+-- done exactly when the budget is at least D + 3 R + 2
+pub record Demand3 (size : Size) (n m d k budget : ℕ) (s : State) (before after : List ℕ) (r : Walked) : Type 0 where
+  pub enough : needed size n m s ≤ budget → Finished size n m d k s before after r
+  pub short : budget < needed size n m s → Spent n m budget s before after r
+  pub places : length after ≡ length before

@@ -1,0 +1,3 @@
+pub mod Plain
+pub mod Walk
+pub mod Demand

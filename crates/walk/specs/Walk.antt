@@ -1,0 +1,89 @@
+-- The walk of the register state, with its refusals.
+use Prim.Native.Nat.{ℕ, _+_, _-_, _%_, _^_, _≤_, _<_}
+use mathlib.Core.Path.{_≡_}
+use mathlib.Core.Bool.{Bool, true, false, not, _||_}
+use mathlib.Core.List.{List}
+use lib.Dec.{ltb, eqb}
+use lib.ListN.{length}
+use Rattle.bits.specs.declared.Size.{Size}
+use Rattle.bits.specs.Choice.{pick}
+use Rattle.bits.specs.Search.{afterLast}
+use Rattle.bits.specs.Size.{shift}
+use Rattle.predicates.specs.Predicate.{active, elements}
+use Rattle.registers.specs.declared.Reply.{Reply}
+use Rattle.registers.specs.declared.Reply.the-variants.{Done, LevelTooLow, AccessOff, IllegalState, BadWalkRegisters, ListTooShort, BudgetSpent}
+use Rattle.registers.specs.declared.State.{State}
+use Rattle.registers.specs.Legal.{legal}
+use Rattle.registers.specs.Reply.{numberOf}
+use Rattle.registers.specs.State.{readX, readP}
+use Rattle.words.specs.declared.Condition.the-variants.{Less}
+use Rattle.words.specs.declared.Target.the-variants.{One}
+use Rattle.words.specs.declared.Instruction.the-variants.{While, IncDec, Pnext, Pfalse}
+use Rattle.words.specs.Words.{sizeOf}
+use Rattle.machine.specs.Step.{executeOf}
+use Rattle.walk.specs.declared.Walked.{Walked}
+use Rattle.walk.specs.Plain.{Machine, Walk, begin, run}
+
+-- Xn plus the number of Pk's true element
+unfoldable pub positionOf : Size → ℕ → ℕ → State → ℕ
+positionOf size n k s = (readX s n + (afterLast (active (shift size) (readP s k)) (elements (s .vl) size) - 1)) % 2 ^ 64
+
+-- the four instructions as a step executes them
+abbrev pub machineOf : Size → ℕ → ℕ → ℕ → ℕ → Machine State
+machineOf size n m d k = record {
+  pfalse = λ s. executeOf s (Pfalse k);
+  whilelo = λ s. executeOf s (While Less true (One true d) size n m);
+  pnext = λ s. executeOf s (Pnext size d k);
+  incp = λ s. executeOf s (IncDec false size d n);
+  zeroFlag = λ s. s .flags .z;
+  position = positionOf size n k;
+}
+
+-- the reply is 0 if it has ended, else 12
+abbrev pub walked : Walk State → Walked
+walked w = record { reply = pick (w .ended) Done BudgetSpent; count = w .count; state = w .state }
+
+-- register number past 31 (X) or 15 (P), size past 3, n = 31, n = m, or d = k
+unfoldable pub badRegisters : ℕ → ℕ → ℕ → ℕ → ℕ → Bool
+badRegisters size n m d k = ltb 31 n || (ltb 31 m || (ltb 15 d || (ltb 15 k || (ltb 3 size || (eqb n 31 || (eqb n m || eqb d k))))))
+
+-- D: limit - start, or 0 if start is at or above limit
+abbrev pub distance : ℕ → ℕ → State → ℕ
+distance n m s = readX s m - readX s n
+
+-- the first refusal of 4, 10, 2 (level 0), 3 and 11 that applies, or 0
+unfoldable pub refusalOf : ℕ → ℕ → ℕ → ℕ → ℕ → State → ℕ → Reply
+refusalOf size n m d k s places =
+    pick (not (legal s)) IllegalState
+    (pick (badRegisters size n m d k) BadWalkRegisters
+    (pick (eqb (s .level) 0) LevelTooLow
+    (pick (not (s .access)) AccessOff
+    (pick (ltb places (distance n m s)) ListTooShort Done))))
+
+abbrev pub accepted : Reply → Bool
+accepted r = eqb (numberOf r) 0
+
+-- the walk at its end; where it is refused, as it begins
+unfoldable pub wholeOf : ℕ → ℕ → ℕ → ℕ → ℕ → ℕ → State → List ℕ → Walk State
+wholeOf size n m d k budget s l =
+    pick (accepted (refusalOf size n m d k s (length l))) (run (machineOf (sizeOf size) n m d k) budget (begin s l)) (begin s l)
+
+-- the answer; a refusal carries its number, the given state, and count 0
+unfoldable pub walkOf : ℕ → ℕ → ℕ → ℕ → ℕ → ℕ → State → List ℕ → Walked
+walkOf size n m d k budget s l =
+    pick (accepted (refusalOf size n m d k s (length l))) (walked (wholeOf size n m d k budget s l))
+    (record { reply = refusalOf size n m d k s (length l); count = 0; state = s })
+
+-- what holds of a walk that is not refused
+pub record Within (size : Size) (n m d k : ℕ) (s : State) (l : List ℕ) : Type 0 where
+  pub n-below : n < 31
+  pub other-x : m ≡ n → ⊥
+  pub d-below : d < 16
+  pub k-below : k < 16
+  pub other-p : d ≡ k → ⊥
+  pub xs : length (s .x) ≡ 31
+  pub ps : length (s .p) ≡ 16
+  pub lanes : 0 < elements (s .vl) size
+  pub start-fits : readX s n < 2 ^ 64
+  pub limit-fits : readX s m < 2 ^ 64
+  pub room : distance n m s ≤ length l
