@@ -71,7 +71,8 @@ impl Machine {
     }
 }
 
-fn after_word(state: State, decoded: Decoded) -> Stepped
+// A step of a state that is known to be legal.
+pub fn after_word(state: State, decoded: Decoded) -> Stepped
     ensures { λ r. ⌜ r ≡ afterWord state decoded ⌝ }
 {
     match decoded {

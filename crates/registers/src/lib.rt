@@ -101,7 +101,8 @@ impl State {
     }
 }
 
-fn is_length(vl: u64) -> bool
+// The five vector lengths.
+pub fn is_length(vl: u64) -> bool
     ensures { λ r. ⌜ r ≡ isLength vl ⌝ }
 {
     if vl == 128 {

@@ -1,0 +1,105 @@
+-- The image of document 01's example, written, read and written again: the hypotheses of the round trips are met. Assumes nothing.
+use mathlib.Core.Bool.{Bool, true, false, _&&_}
+use mathlib.Core.List.{List, [], _∷_, _++_}
+use mathlib.Core.Path.{_≡_, refl, ap, _∙_}
+use Prim.Native.Nat.{ℕ, zero, suc, _^_, _<_}
+use lib.Dec.{ltb, leb, lit<, lit≤}
+use lib.ListN.{getD, replicate, getD-replicate}
+use borrow.Author.Tests.{ltb-true}
+use Rattle.bits.specs.Bits.{testBit, number}
+use Rattle.bits.specs.Search.{some}
+use Rattle.bits.proofs.Searches.{never, some-no}
+use Rattle.predicates.specs.Predicate.{bitAt, pack, predicateLength, hasBitFrom}
+use Rattle.predicates.proofs.Words.{pack-bit, pack-words}
+use Rattle.registers.specs.declared.Reply.the-variants as R
+use Rattle.registers.specs.declared.State.{State}
+use Rattle.registers.specs.Legal.{isLength, legal}
+use Rattle.registers.specs.State.{allFalse, readP}
+use Rattle.registers.proofs.Legality.{has-legal}
+use Rattle.image.specs.Bytes.{le, value, joined, over}
+use Rattle.image.specs.Image.{section, settingsBytes, predicateBytes, flagBytes, imageOf}
+use Rattle.image.specs.Reading.{sectionFault, orElse, settingsWrong, flagsWrong, wordsReply, flagsReply, predicatesReply, xReply, imageReply, stateOf, wordsOf, readOf, listAfter}
+use Rattle.image.proofs.Bytes.{AreBytes}
+use Rattle.image.proofs.RoundTrips.{Held, read-written, list-written, written-read}
+
+-- VL 128, level 1, access on, X1 = 10, X2 = 13, all else zero
+abbrev pub state : State
+state = record {
+  vl = 128;
+  level = 1;
+  access = true;
+  flags = record { n = false; z = false; c = false; v = false };
+  x = 0 ∷ 10 ∷ 13 ∷ replicate 28 0;
+  p = replicate 16 allFalse;
+}
+
+-- 25A21C20, 2519C401, 00000000
+abbrev pub words : List ℕ
+words = 631381024 ∷ 622445569 ∷ 0 ∷ []
+
+-- its 319 bytes
+abbrev pub image : List ℕ
+image =
+    3 ∷ 0 ∷ 0 ∷ 0 ∷ 1 ∷ 1 ∷ 1 ∷ 31 ∷ 0 ∷ 0 ∷ 0 ∷ replicate 8 0
+    ++ (10 ∷ replicate 7 0 ++ (13 ∷ replicate 7 0 ++ (replicate 224 0 ++ (16 ∷ 0 ∷ 0 ∷ 0 ∷ replicate 32 0
+    ++ (4 ∷ 0 ∷ 0 ∷ 0 ∷ 0 ∷ 0 ∷ 0 ∷ 0 ∷ 3 ∷ 0 ∷ 0 ∷ 0 ∷ 32 ∷ 28 ∷ 162 ∷ 37 ∷ 1 ∷ 196 ∷ 25 ∷ 37 ∷ 0 ∷ 0 ∷ 0 ∷ 0 ∷ [])))))
+
+pub image-bytes : imageOf state words ≡ image
+unfolding imageOf section settingsBytes predicateBytes flagBytes joined le number bitAt pack testBit
+image-bytes = refl
+
+-- ---- what the round trips ask for
+
+allBelow : ℕ → List ℕ → Bool
+allBelow m [] = true
+allBelow m (x ∷ xs) = ltb x m && allBelow m xs
+
+both : (a b : Bool) → (a && b) ≡ true → (a ≡ true) × (b ≡ true)
+both true b e = (refl, e)
+both false b e = never e refl
+
+below-all : (m : ℕ) (xs : List ℕ) → 0 < m → allBelow m xs ≡ true → (i : ℕ) → getD xs i 0 < m
+unfolding allBelow
+below-all m [] h e i = h
+below-all m (x ∷ xs) h e zero = ltb-true x m (both (ltb x m) (allBelow m xs) e .0)
+below-all m (x ∷ xs) h e (suc i) = below-all m xs h (both (ltb x m) (allBelow m xs) e .1) i
+
+none-false : (r : ℕ) → r < 16 → readP state r ≡ allFalse
+none-false r h = getD-replicate 16 r allFalse allFalse h
+
+pub held : Held state
+unfolding allBelow
+held = record { sized = record { xs = refl; ps = refl }; xs = below-all (2 ^ 64) (state .x) (lit< tt) refl; ps = λ r h. rw (none-false r h) (pack-words _) }
+
+and-false : (a : Bool) → (a && false) ≡ false
+and-false true = refl
+and-false false = refl
+
+no-bit : hasBitFrom (predicateLength 128) allFalse ≡ false
+unfolding hasBitFrom
+no-bit = some-no _ 256 (λ b l. ap (λ (x : Bool). leb (predicateLength 128) b && x) (pack-bit (λ i. false) b l) ∙ and-false (leb (predicateLength 128) b))
+
+pub lawful : legal state ≡ true
+unfolding isLength
+lawful = has-legal state (record { len = refl; level = lit≤ tt; bits = λ r h. rw (none-false r h) no-bit })
+
+pub bytes : AreBytes image
+unfolding allBelow
+bytes = below-all 256 image (lit< tt) refl
+
+pub reply : imageReply 3 image ≡ R.Done
+unfolding imageReply xReply predicatesReply flagsReply wordsReply orElse sectionFault settingsWrong flagsWrong isLength some value
+reply = refl
+
+-- ---- the round trips
+
+pub read-back : readOf 3 image ≡ record { reply = R.Done; state = state; count = 3 }
+unfolding allBelow
+read-back = rw image-bytes at (read-written state words held lawful (lit≤ tt) (below-all (2 ^ 32) words (lit< tt) refl) 3 (lit≤ tt))
+
+pub list-back : listAfter image (9 ∷ 9 ∷ 9 ∷ 9 ∷ 9 ∷ []) ≡ words ++ (9 ∷ 9 ∷ [])
+unfolding allBelow over
+list-back = rw image-bytes at (list-written state words held lawful (lit≤ tt) (below-all (2 ^ 32) words (lit< tt) refl) (9 ∷ 9 ∷ 9 ∷ 9 ∷ 9 ∷ []) (lit≤ tt))
+
+pub written-again : imageOf (stateOf image) (wordsOf image) ≡ image
+written-again = written-read image 3 bytes reply

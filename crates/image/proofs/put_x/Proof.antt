@@ -1,0 +1,89 @@
+-- `put_x` meets its contract: what is left to write is stored over what was. Assumes nothing.
+use mathlib.Core.Path.{_≡_, refl, sym, _∙_}
+use Prim.Native.Nat.{_+_, _*_, _-_, _≤_}
+use native.Mathlib.Omega.{arith}
+use lib.ListN.{length, drop}
+use lib.Seq.{sets}
+use Rattle.image.specs.Bytes.{le, joined}
+use Rattle.image.proofs.Bytes.{length-le, put-start, put-turn, put-end}
+use Rattle.image.proofs.Sections.{section-start}
+use borrow.Author.Needs.{needs}
+use Rattle.image.proofs.put_x.Statement.{statement}
+use Rattle.image.proofs.put_x.Tie as tie
+
+abbrev Inv-loop : tie.InvT-loop
+Inv-loop image₀ at x i₀ image i = (i ≤ 31) × ((length image ≡ length image₀) × (sets image (at + 4 + i * 8) (joined (le 8) (drop i x)) ≡ sets image₀ (at + 4) (joined (le 8) x)))
+
+abbrev μ-loop : tie.MeasureT-loop
+μ-loop image₀ at x i₀ image i = 31 - i
+
+sized : (c : tie.Start Inv-loop μ-loop) → length (c .args .t3) ≡ 31
+sized c = search needs
+
+put-number-requires : tie.Need-put-number-requires Inv-loop μ-loop
+put-number-requires c κs = search needs
+
+loop-holds : tie.Need-loop-holds Inv-loop μ-loop
+loop-holds c = (omega arith, (refl, put-start (le 8) 8 (length-le 8) _ _ _))
+
+add-put-number : tie.Need-add-put-number Inv-loop μ-loop
+add-put-number c = search needs
+
+mul-put-number : tie.Need-mul-put-number Inv-loop μ-loop
+mul-put-number c = search needs
+
+add-put-number-2 : tie.Need-add-put-number-2 Inv-loop μ-loop
+add-put-number-2 c = search needs
+
+mul-put-number-2 : tie.Need-mul-put-number-2 Inv-loop μ-loop
+mul-put-number-2 c = search needs
+
+array-read-put-number : tie.Need-array-read-put-number Inv-loop μ-loop
+array-read-put-number c = search needs
+
+put-number-requires-2 : tie.Need-put-number-requires-2 Inv-loop μ-loop
+put-number-requires-2 c κs = omega arith
+
+add-i : tie.Need-add-i Inv-loop μ-loop
+add-i c = search needs
+
+loop-less : tie.Need-loop-less Inv-loop μ-loop
+loop-less c = omega arith
+
+loop-again : tie.Need-loop-again Inv-loop μ-loop
+loop-again c =
+    let l = c .before .before .before .before .before in
+    let s = l .before .before .before .before .before .before in
+    let n = sized s in
+    let w = c .before .before .put-number2 .ensures in
+    (omega arith, (omega arith, put-turn (le 8) 8 (length-le 8) _ _ (s .args .at + 4) (l .loop .i) (s .args .t3) 0 (omega arith) w ∙ l .loop .inv .1 .1))
+
+same-length : tie.Need-same-length Inv-loop μ-loop
+same-length c = omega arith
+
+returns : tie.Need-returns Inv-loop μ-loop
+returns c =
+    let l = c .before in
+    let s = l .before .before .before .before .before .before in
+    let n = sized s in
+    sym (put-end (le 8) 8 (length-le 8) _ (s .args .at + 4) (l .loop .i) (s .args .t3) (omega arith)) ∙ l .loop .inv .1 .1 ∙ section-start _ _ _ 31 _ (l .before .before .before .put-number .ensures)
+
+pub put-x-spec : {M : Type 1} → statement M
+put-x-spec =
+    tie.close
+    (tie.spec
+    Inv-loop
+    μ-loop
+    put-number-requires
+    loop-holds
+    add-put-number
+    mul-put-number
+    add-put-number-2
+    mul-put-number-2
+    array-read-put-number
+    put-number-requires-2
+    add-i
+    loop-less
+    loop-again
+    same-length
+    returns)

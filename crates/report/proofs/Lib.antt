@@ -1,0 +1,4 @@
+-- Laws of the lines. Callers' proofs cite them.
+pub mod Digits
+pub mod Places
+pub mod Example
