@@ -3,13 +3,16 @@ use Prim.Native.Nat.{ℕ, suc}
 use mathlib.Core.Bool.{Bool}
 use mathlib.Core.List.{List, [], _∷_}
 use lib.Dec.{ltb, eqb}
+use lib.ListN.{getD}
+use Rattle.predicates.specs.declared.Predicate.{Predicate}
+use Rattle.predicates.specs.Predicate.{allFalse}
+use Rattle.words.specs.declared.Instruction.the-variants.{Pfalse}
 use Rattle.bits.specs.Choice.{pick}
 use Rattle.registers.specs.declared.Reply.{Reply}
 use Rattle.registers.specs.declared.Reply.the-variants.{Done, LevelTooLow, AccessOff, IllegalState}
 use Rattle.registers.specs.declared.State.{State}
 use Rattle.registers.specs.Legal.{legal}
 use Rattle.registers.specs.Reply.{numberOf}
-use Rattle.registers.specs.State.{readX, readP}
 use Rattle.words.specs.declared.Decoded.{Decoded}
 use Rattle.words.specs.declared.Decoded.the-variants.{Ours, Refused}
 use Rattle.words.specs.declared.Instruction.{Instruction}
@@ -22,8 +25,11 @@ use Rattle.instructions.specs.Instructions.{computeOf}
 use Rattle.instructions.specs.Registers.{firstX, secondX, firstP, secondP}
 
 -- an instruction reads all its registers before it writes any
+abbrev pub effectAt : List ℕ → List Predicate → ℕ → Instruction → Effect
+effectAt x p vl i = computeOf i (getD x (firstX i) 0) (getD x (secondX i) 0) (getD p (firstP i) allFalse) (getD p (secondP i) allFalse) vl
+
 unfoldable pub effectOf : State → Instruction → Effect
-effectOf s i = computeOf i (readX s (firstX i)) (readX s (secondX i)) (readP s (firstP i)) (readP s (secondP i)) (s .vl)
+effectOf s i = effectAt (s .x) (s .p) (s .vl) i
 
 unfoldable pub executeOf : State → Instruction → State
 executeOf s i = apply s (effectOf s i)
@@ -36,6 +42,15 @@ answered r s = record { reply = r; state = s }
 unfoldable pub afterWord : State → Decoded → Stepped
 afterWord s (Refused r) = answered r s
 afterWord s (Ours i) = pick (ltb (s .level) (levelOf i)) (answered LevelTooLow s) (pick (s .access) (answered Done (executeOf s i)) (answered AccessOff s))
+
+-- the reply to a word by itself, and the instruction that it is; for a refused word one that writes nothing
+abbrev pub admissionOf : Decoded → ℕ → Bool → Reply
+admissionOf (Refused r) level access = r
+admissionOf (Ours i) level access = pick (ltb level (levelOf i)) LevelTooLow (pick access Done AccessOff)
+
+abbrev pub instructionOf : Decoded → Instruction
+instructionOf (Refused r) = Pfalse 16
+instructionOf (Ours i) = i
 
 -- 4 comes first
 unfoldable pub stepOf : State → ℕ → Stepped

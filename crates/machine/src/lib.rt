@@ -1,9 +1,12 @@
 // The machine: an effect written to the register state, a step, and a run of steps.
 ghost use mathlib.Core.Path.{_≡_};
 ghost use Rattle.machine.specs.Effect.{setFlags, apply as applyOf};
-ghost use Rattle.machine.specs.Step.{executeOf, afterWord, stepOf, runOf};
+ghost use lib.ListN.{getD};
+ghost use Rattle.predicates.specs.Predicate.{allFalse};
+ghost use Rattle.machine.specs.Step.{effectAt, executeOf, admissionOf, instructionOf, afterWord, stepOf, runOf};
 use instructions::Effect;
 use predicates::Flags;
+use predicates::Predicate;
 use registers::Reply;
 use registers::State;
 use words::Decoded;
@@ -55,11 +58,27 @@ impl Machine {
         }
         let mut done = 0;
         while done < words.len() {
-            let stepped = after_word(state, words::decode(words[done]));
-            let reply = stepped.reply;
-            state = stepped.state;
+            let decoded = words::decode(words[done]);
+            let reply = admission(decoded, state.level, state.access);
             if reply.number() != 0 {
                 return Ran { done, reply, state };
+            }
+            let x = state.x;
+            let p = state.p;
+            let e = effect(instruction(decoded), x, p, state.vl);
+            if e.flags < 16 {
+                state.flags = Flags::of(e.flags);
+            }
+            if e.x < 31 {
+                state.x[e.x as usize] = e.value;
+            }
+            if e.p < 16 {
+                let q = e.predicate;
+                state.p[e.p as usize] = q;
+            }
+            if e.second < 16 {
+                let q = e.other;
+                state.p[e.second as usize] = q;
             }
             done += 1;
         }
@@ -98,15 +117,68 @@ pub fn after_word(state: State, decoded: Decoded) -> Stepped
     }
 }
 
+// The reply to a word at a level, before anything is done.
+fn admission(decoded: Decoded, level: u8, access: bool) -> Reply
+    ensures { λ r. ⌜ r ≡ admissionOf decoded level access ⌝ }
+{
+    match decoded {
+        Decoded::Refused(reply) => reply,
+        Decoded::Ours(i) => {
+            if level < words::level(i) {
+                return Reply::LevelTooLow;
+            }
+            if !access {
+                return Reply::AccessOff;
+            }
+            Reply::Done
+        }
+    }
+}
+
+// The instruction that a word is; for a refused word one that writes nothing.
+fn instruction(decoded: Decoded) -> Instruction
+    ensures { λ r. ⌜ r ≡ instructionOf decoded ⌝ }
+{
+    match decoded {
+        Decoded::Refused(_) => Instruction::Pfalse { pd: 16 },
+        Decoded::Ours(i) => i,
+    }
+}
+
+// An instruction's effect, from the registers' values.
+fn effect(i: Instruction, x: [u64; 31], p: [Predicate; 16], vl: u64) -> Effect
+    ensures { λ r. ⌜ r ≡ effectAt x p vl i ⌝ }
+{
+    let a = x_at(x, instructions::first_x(i));
+    let b = x_at(x, instructions::second_x(i));
+    let g = p_at(p, instructions::first_p(i));
+    let q = p_at(p, instructions::second_p(i));
+    instructions::compute(i, a, b, g, q, vl)
+}
+
+fn x_at(x: [u64; 31], r: u8) -> u64
+    ensures { λ v. ⌜ v ≡ getD x r 0 ⌝ }
+{
+    if r < 31 { x[r as usize] } else { 0 }
+}
+
+fn p_at(p: [Predicate; 16], r: u8) -> Predicate
+    ensures { λ q. ⌜ q ≡ getD p r allFalse ⌝ }
+{
+    if r < 16 {
+        p[r as usize]
+    } else {
+        Predicate::none()
+    }
+}
+
 // All registers are read before any is written.
 pub fn execute(state: State, i: Instruction) -> State
     ensures { λ r. ⌜ r ≡ executeOf state i ⌝ }
 {
-    let a = state.read_x(instructions::first_x(i) as u64);
-    let b = state.read_x(instructions::second_x(i) as u64);
-    let g = state.read_p(instructions::first_p(i) as u64);
-    let q = state.read_p(instructions::second_p(i) as u64);
-    apply(state, instructions::compute(i, a, b, g, q, state.vl))
+    let x = state.x;
+    let p = state.p;
+    apply(state, effect(i, x, p, state.vl))
 }
 
 fn set_flags(state: State, nzcv: u64) -> State

@@ -21,7 +21,7 @@ use Rattle.instructions.specs.While.{allHeld, whileElement}
 use Rattle.scalars.specs.While.{operandAt, comparison}
 use Rattle.walk.specs.Demand.{needed}
 use Rattle.walk.specs.Plain.{run, begin}
-use Rattle.walk.specs.Walk.{Within, machineOf, positionOf, badRegisters, refusalOf}
+use Rattle.walk.specs.Walk.{Within, machineOf, positionAt, badRegisters, refusalOf}
 use Rattle.walk.proofs.Demands.{demand3}
 
 -- level 1, access on, X1 and X2 as given, all else zero
@@ -80,6 +80,6 @@ module _ (l : List ℕ) (room : 37 ≤ length l) where
 
 -- doublewords from 5 to 8 with 2 lanes: 3 + 3 · 2 + 2 instructions
 pub walked-whole : run (machineOf Sz.D 1 2 0 1) 11 (begin (start 128 5 8) (0 ∷ 0 ∷ 0 ∷ 7 ∷ [])) .list ≡ 5 ∷ 6 ∷ 7 ∷ 7 ∷ []
-unfolding run positionOf executeOf effectOf computeOf whileOne pnext incDec apply setFlags withX withP withFlags flagsOf nzcv predTest atLowest atHighest
+unfolding run positionAt executeOf effectOf computeOf whileOne pnext incDec apply setFlags withX withP withFlags flagsOf nzcv predTest atLowest atHighest
     whileElement allHeld comparison operandAt elements predicateLength spread elementBit pack number active bitAt testBit count some afterLast scan
 walked-whole = refl

@@ -36,7 +36,7 @@ use Rattle.instructions.proofs.Whiles.{spanFlags}
 use Rattle.walk.specs.declared.Phase.the-variants.{Advance}
 use Rattle.walk.specs.Demand.{finalState}
 use Rattle.walk.specs.Plain.{Walk, run, begin}
-use Rattle.walk.specs.Walk.{Within, machineOf, positionOf, distance}
+use Rattle.walk.specs.Walk.{Within, machineOf, positionOf, positionAt, distance}
 use Rattle.walk.proofs.Closed.{Laws, lanesAt, place-below}
 use Rattle.walk.proofs.Executed.{executes-pfalse, executes-whilelo, executes-pnext, executes-incp}
 use Rattle.walk.proofs.Runs.{later-run}
@@ -245,7 +245,7 @@ module _ (size : Size) (n m d k : ℕ) (s : State) where
     miss o h = none-z (s .vl) size (lanesOf o)
 
     place : (o j : ℕ) → o < distance n m s → j < lanesOf o → positionOf size n k (laneAt o (suc j)) ≡ readX s n + (o + j)
-    unfolding positionOf withX withP withFlags
+    unfolding positionAt withX withP withFlags
     place o j h q =
         let x = readX s n + o in
         let pd = spanOf (shift size) 0 (lanesOf o) in

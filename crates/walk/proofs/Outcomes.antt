@@ -15,24 +15,21 @@ use Rattle.predicates.specs.Predicate.{active, elements}
 use Rattle.registers.specs.declared.Reply.the-variants.{Done, LevelTooLow, AccessOff, IllegalState, BadWalkRegisters, ListTooShort}
 use Rattle.registers.specs.declared.State.{State}
 use Rattle.registers.specs.Legal.{legal}
-use Rattle.registers.specs.State.{readX, readP}
-use Rattle.walk.specs.Walk.{positionOf, badRegisters, distance, refusalOf}
+use Rattle.registers.specs.State.{readX}
+use Rattle.walk.specs.Walk.{positionAt, badRegisters, distance, refusalOf}
 
 -- ---- position
 
-module _ (s : State) (size : Size) (n k x e : ℕ) (p : Predicate) (ep : p ≡ readP s k) (ee : e ≡ afterLast (active (shift size) p) (elements (s .vl) size)) (ex : x ≡ readX s n) where
-  last : afterLast (active (shift size) (readP s k)) (elements (s .vl) size) ≡ e
-  last = sym (ee ∙ ap (λ (q : Predicate). afterLast (active (shift size) q) (elements (s .vl) size)) ep)
-
-  pub at-none : e ≡ 0 → x < 2 ^ 64 → x ≡ positionOf size n k s
-  unfolding positionOf
+module _ (size : Size) (x e vl : ℕ) (p : Predicate) (ee : e ≡ afterLast (active (shift size) p) (elements vl size)) where
+  pub at-none : e ≡ 0 → x < 2 ^ 64 → x ≡ positionAt size x p vl
+  unfolding positionAt
   at-none z h =
       let sum : x + (0 - 1) ≡ x = omega arith in
-      sym (ap₂ (λ (a b : ℕ). (a + (b - 1)) % 2 ^ 64) (sym ex) (last ∙ z) ∙ ap (λ (v : ℕ). v % 2 ^ 64) sum ∙ mod-eq-of-lt h)
+      sym (ap (λ (b : ℕ). (x + (b - 1)) % 2 ^ 64) (sym ee ∙ z) ∙ ap (λ (v : ℕ). v % 2 ^ 64) sum ∙ mod-eq-of-lt h)
 
-  pub at-element : (r : ℕ) → r ≡ (x + (e - 1)) % 2 ^ 64 → r ≡ positionOf size n k s
-  unfolding positionOf
-  at-element r er = er ∙ ap₂ (λ (a b : ℕ). (a + (b - 1)) % 2 ^ 64) ex (sym last)
+  pub at-element : (r : ℕ) → r ≡ (x + (e - 1)) % 2 ^ 64 → r ≡ positionAt size x p vl
+  unfolding positionAt
+  at-element r er = er ∙ ap (λ (b : ℕ). (x + (b - 1)) % 2 ^ 64) ee
 
 -- ---- refusals
 

@@ -9,6 +9,7 @@ use Rattle.bits.specs.declared.Size.{Size}
 use Rattle.bits.specs.Choice.{pick}
 use Rattle.bits.specs.Search.{afterLast}
 use Rattle.bits.specs.Size.{shift}
+use Rattle.predicates.specs.declared.Predicate.{Predicate}
 use Rattle.predicates.specs.Predicate.{active, elements}
 use Rattle.registers.specs.declared.Reply.{Reply}
 use Rattle.registers.specs.declared.Reply.the-variants.{Done, LevelTooLow, AccessOff, IllegalState, BadWalkRegisters, ListTooShort, BudgetSpent}
@@ -25,8 +26,11 @@ use Rattle.walk.specs.declared.Walked.{Walked}
 use Rattle.walk.specs.Plain.{Machine, Walk, begin, run}
 
 -- Xn plus the number of Pk's true element
-unfoldable pub positionOf : Size → ℕ → ℕ → State → ℕ
-positionOf size n k s = (readX s n + (afterLast (active (shift size) (readP s k)) (elements (s .vl) size) - 1)) % 2 ^ 64
+unfoldable pub positionAt : Size → ℕ → Predicate → ℕ → ℕ
+positionAt size x cursor vl = (x + (afterLast (active (shift size) cursor) (elements vl size) - 1)) % 2 ^ 64
+
+abbrev pub positionOf : Size → ℕ → ℕ → State → ℕ
+positionOf size n k s = positionAt size (readX s n) (readP s k) (s .vl)
 
 -- the four instructions as a step executes them
 abbrev pub machineOf : Size → ℕ → ℕ → ℕ → ℕ → Machine State

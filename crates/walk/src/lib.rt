@@ -6,13 +6,15 @@ ghost use lib.ListN.{length};
 ghost use Rattle.registers.specs.declared.Reply.the-variants.{Done};
 ghost use Rattle.words.specs.declared.Condition.the-variants.{Less};
 ghost use Rattle.words.specs.declared.Target.the-variants.{One};
-ghost use Rattle.words.specs.declared.Instruction.the-variants.{While, IncDec, Pnext, Pfalse};
+ghost use Rattle.words.specs.declared.Instruction.the-variants.{While, IncDec, Pfalse};
 ghost use Rattle.words.specs.Words.{sizeOf};
 ghost use Rattle.machine.specs.Step.{executeOf};
 ghost use Rattle.walk.specs.Plain.{run, begin};
-ghost use Rattle.walk.specs.Walk.{Within, machineOf, positionOf, walked, badRegisters, distance, refusalOf, wholeOf, walkOf};
+ghost use Rattle.walk.specs.Walk.{Within, machineOf, positionAt, walked, badRegisters, distance, refusalOf, wholeOf, walkOf};
 ghost use Rattle.walk.specs.Demand.{Demand3};
 use bits::Size;
+use predicates::Flags;
+use predicates::Predicate;
 use registers::Reply;
 use registers::State;
 use words::Condition;
@@ -56,19 +58,6 @@ fn whilelo(state: State, size: Size, n: u8, m: u8, d: u8) -> State
     )
 }
 
-fn pnext(state: State, size: Size, d: u8, k: u8) -> State
-    ensures { λ r. ⌜ r ≡ executeOf state (Pnext size d k) ⌝ }
-{
-    machine::execute(
-        state,
-        Instruction::Pnext {
-            size,
-            pv: d,
-            pdn: k,
-        },
-    )
-}
-
 fn incp(state: State, size: Size, n: u8, d: u8) -> State
     ensures { λ r. ⌜ r ≡ executeOf state (IncDec false size d n) ⌝ }
 {
@@ -84,11 +73,10 @@ fn incp(state: State, size: Size, n: u8, d: u8) -> State
 }
 
 // Xn plus the number of Pk's true element.
-fn position(state: State, size: Size, n: u8, k: u8) -> u64
-    ensures { λ r. ⌜ r ≡ positionOf size n k state ⌝ }
+fn position(x: u64, cursor: Predicate, size: Size, vl: u64) -> u64
+    ensures { λ r. ⌜ r ≡ positionAt size x cursor vl ⌝ }
 {
-    let end = state.read_p(k as u64).after_last(state.vl, size);
-    let x = state.read_x(n as u64);
+    let end = cursor.after_last(vl, size);
     if end == 0 {
         return x;
     }
@@ -184,11 +172,16 @@ fn plain(
                 phase = Phase::Advance;
             }
             Phase::Advance => {
-                state = pnext(state, size, d, k);
+                let v = state.p[d as usize];
+                let dn = state.p[k as usize];
+                let next = instructions::pnext(size, k, v, dn, state.vl);
+                let cursor = next.predicate;
+                state.p[k as usize] = cursor;
+                state.flags = Flags::of(next.flags);
                 if state.flags.z {
                     phase = Phase::Add;
                 } else {
-                    list[used] = position(state, size, n, k);
+                    list[used] = position(state.x[n as usize], cursor, size, state.vl);
                     used += 1;
                 }
             }

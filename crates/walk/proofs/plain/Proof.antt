@@ -1,16 +1,18 @@
 -- `plain` meets its contract: between two turns what the loop holds is the plain walk with the count as its budget. Assumes nothing.
-use mathlib.Core.Bool.{true, false}
+use mathlib.Core.Bool.{Bool, true, false}
 use mathlib.Core.Logic.{⊎-elim}
-use mathlib.Core.Path.{_≡_, refl, sym, ap, _∙_}
+use mathlib.Core.Path.{_≡_, refl, sym, ap, subst, _∙_}
 use Prim.Native.Nat.{ℕ, _+_, _-_, _≤_, _<_}
 use native.Mathlib.Omega.{arith}
 use lib.ListN.{set, length}
 use borrow.Author.Needs.{needs}
 use Rattle.registers.specs.declared.State.{State}
+use Rattle.registers.proofs.Registers.{Sized}
 use denote.Ref.{now}
 use Rattle.walk.specs.declared.Phase.the-variants.{Clear, Select, Advance, Add}
 use Rattle.walk.specs.Plain.{Walk, advanced, run, begin}
 use Rattle.walk.specs.Walk.{machineOf}
+use Rattle.walk.proofs.InPlace.{written, advances, visits, run-sized}
 use Rattle.walk.proofs.Lanes.{room}
 use Rattle.walk.proofs.Runs.{later-run, walk-eq, one-more, settled}
 use Rattle.walk.proofs.plain.Statement.{statement}
@@ -45,8 +47,47 @@ whilelo-requires c κs = search needs
 enum-told-3 : tie.Need-enum-told-3 Inv-loop μ-loop
 enum-told-3 c = c .match .keys3
 
+cast-v : tie.Need-cast-v Inv-loop μ-loop
+cast-v c = search needs
+
+mul-v : tie.Need-mul-v Inv-loop μ-loop
+mul-v c = search needs
+
+element-copy-out-v : tie.Need-element-copy-out-v Inv-loop μ-loop
+element-copy-out-v c = search needs
+
+cast-dn : tie.Need-cast-dn Inv-loop μ-loop
+cast-dn c = search needs
+
+mul-dn : tie.Need-mul-dn Inv-loop μ-loop
+mul-dn c = search needs
+
+element-copy-out-dn : tie.Need-element-copy-out-dn Inv-loop μ-loop
+element-copy-out-dn c = search needs
+
 pnext-requires : tie.Need-pnext-requires Inv-loop μ-loop
 pnext-requires c κs = search needs
+
+cast-t51 : tie.Need-cast-t51 Inv-loop μ-loop
+cast-t51 c = search needs
+
+mul-t52 : tie.Need-mul-t52 Inv-loop μ-loop
+mul-t52 c = search needs
+
+element-set-from-state : tie.Need-element-set-from-state Inv-loop μ-loop
+element-set-from-state c = search needs
+
+of-requires : tie.Need-of-requires Inv-loop μ-loop
+of-requires c κs = search needs
+
+cast-position : tie.Need-cast-position Inv-loop μ-loop
+cast-position c = search needs
+
+mul-position : tie.Need-mul-position Inv-loop μ-loop
+mul-position c = search needs
+
+element-copy-out-position : tie.Need-element-copy-out-position Inv-loop μ-loop
+element-copy-out-position c = search needs
 
 position-requires : tie.Need-position-requires Inv-loop μ-loop
 position-requires c κs = search needs
@@ -57,25 +98,32 @@ kept c =
     let a = c .before .before .args in
     ap (λ v. length (v .list)) (sym (c .loop .inv .1)) ∙ later-run (machineOf (a .size) (a .n) (a .m) (a .d) (a .k)) (c .loop .count) (begin (a .start) (now (a .list))) .as-long
 
-in-list : (c : tie.After-position Inv-loop μ-loop)
-    → c .before .before .before .before .before .before .before .loop .used < length (c .before .before .before .before .before .before .before .loop .list)
+-- its registers keep their number
+sized : (c : tie.At-loop Inv-loop μ-loop) → Sized (c .loop .state)
+sized c =
+    let a = c .before .before .args in
+    let g = c .before .before .pre in
+    subst (λ (w : Walk State). Sized (w .state)) (c .loop .inv .1)
+    (run-sized (a .size) (a .n) (a .m) (a .d) (a .k) (c .loop .count) (begin (a .start) (now (a .list))) (record { xs = g .xs; ps = g .ps }))
+
+in-list : (c : tie.After-position Inv-loop μ-loop) → c .before .before .before .before .before .before .before .before .before .before .before .before .loop .used < length (c .before .before .before .before .before .before .before .before .before .before .before .before .loop .list)
 in-list c =
-    let st = c .before .before .before .before .before .before .before .before .before in
-    let lp = c .before .before .before .before .before .before .before .loop in
+    let st = c .before .before .before .before .before .before .before .before .before .before .before .before .before .before in
+    let lp = c .before .before .before .before .before .before .before .before .before .before .before .before .loop in
     let a = st .args in
-    room (a .size) (a .n) (a .m) (a .d) (a .k) (a .start) (now (a .list)) (st .pre) (lp .count) _ (lp .inv .1)
-    (c .before .before .before .before .before .if1 .left)
-    (c .before .before .before .enum-told3 .given .1)
-    (ap (λ s. s .flags .z) (sym (c .before .before .pnext .ensures)) ∙ c .before .if2 .left)
+    let g = st .pre in
+    let et = advances (lp .state) (sized (c .before .before .before .before .before .before .before .before .before .before .before .before)) (a .size) (a .d) (a .k) (g .d-below) (g .k-below) _ _ (c .before .before .before .before .before .pnext .result) (c .before .before .before .of .result) (c .before .before .before .before .before .pnext .ensures) (c .before .before .before .of .ensures) in
+    room (a .size) (a .n) (a .m) (a .d) (a .k) (a .start) (now (a .list)) g (lp .count) _ (lp .inv .1) (c .before .before .before .before .before .before .before .before .before .before .if1 .left) (c .before .before .before .before .before .before .before .before .enum-told3 .given .1)
+    (ap (λ (q : State). q .flags .z) (sym et) ∙ c .before .before .if2 .left)
 
 mul-list : tie.Need-mul-list Inv-loop μ-loop
-mul-list c = omega (arith, in-list c, kept (c .before .before .before .before .before .before .before), c .before .before .before .before .before .before .before .before .before .good)
+mul-list c = omega (arith, in-list c, kept (c .before .before .before .before .before .before .before .before .before .before .before .before), c .before .before .before .before .before .before .before .before .before .before .before .before .before .before .good)
 
 slice-write-list : tie.Need-slice-write-list Inv-loop μ-loop
 slice-write-list c = in-list c
 
 add-used : tie.Need-add-used Inv-loop μ-loop
-add-used c = omega (arith, in-list c, kept (c .before .before .before .before .before .before .before), c .before .before .before .before .before .before .before .before .before .good)
+add-used c = omega (arith, in-list c, kept (c .before .before .before .before .before .before .before .before .before .before .before .before), c .before .before .before .before .before .before .before .before .before .before .before .before .before .before .good)
 
 enum-told-4 : tie.Need-enum-told-4 Inv-loop μ-loop
 enum-told-4 c = c .match .keys4
@@ -95,6 +143,8 @@ loop-again c =
     let lp = c .before .before .before .loop in
     let a = st .args in
     let m = machineOf (a .size) (a .n) (a .m) (a .d) (a .k) in
+    let g = st .pre in
+    let z = sized (c .before .before .before) in
     let live = c .before .if1 .left in
     let u = begin (a .start) (now (a .list)) in
     let w : Walk State = record { state = lp .state; list = lp .list; count = lp .count; next = lp .phase; ended = lp .ended; used = lp .used } in
@@ -116,15 +166,20 @@ loop-again c =
     (λ x. (
       omega arith,
       more Advance (x .1 .given .1)
-          (ap (λ s. advanced m (s .flags .z) s w) (sym (x .2 .ensures)) ∙ ap (λ z. advanced m z (x .2 .result) w) (x .3 .taken)
-          ∙ walk-eq m (sym (x .5)) (sym (x .4)) refl (sym (x .6)) (sym (x .7 ∙ live)) (sym (x .8))),
+          (let t : State = written (lp .state) (a .k) (x .4 .result .predicate) (x .6 .result) in
+          let et = advances (lp .state) z (a .size) (a .d) (a .k) (g .d-below) (g .k-below) _ _ (x .4 .result) (x .6 .result) (x .4 .ensures) (x .6 .ensures) in
+          ap (λ (q : State). advanced m (q .flags .z) q w) (sym et) ∙ ap (λ (z : Bool). advanced m z t w) (x .7 .taken)
+          ∙ walk-eq m (sym (x .9)) (sym (x .8)) refl (sym (x .10)) (sym (x .11 ∙ live)) (sym (x .12))),
     ))
     (⊎-elim
     (λ x. (
       omega arith,
       more Advance (x .1 .given .1)
-          (ap (λ s. advanced m (s .flags .z) s w) (sym (x .2 .ensures)) ∙ ap (λ z. advanced m z (x .2 .result) w) (x .3 .left)
-          ∙ walk-eq m (sym (x .6)) (ap (set (lp .list) (lp .used)) (sym (x .4 .ensures)) ∙ sym (x .5)) refl (sym (x .7 ∙ x .1 .given .1)) (sym (x .8 ∙ live)) (sym (x .9))),
+          (let t : State = written (lp .state) (a .k) (x .4 .result .predicate) (x .6 .result) in
+          let et = advances (lp .state) z (a .size) (a .d) (a .k) (g .d-below) (g .k-below) _ _ (x .4 .result) (x .6 .result) (x .4 .ensures) (x .6 .ensures) in
+          let here = visits (lp .state) z (a .size) (a .d) (a .k) (g .d-below) (g .k-below) _ _ (x .4 .result) (x .6 .result) (x .4 .ensures) (x .6 .ensures) (a .n) in
+          ap (λ (q : State). advanced m (q .flags .z) q w) (sym et) ∙ ap (λ (z : Bool). advanced m z t w) (x .7 .left)
+          ∙ walk-eq m (sym (x .11)) (ap (set (lp .list) (lp .used)) (here ∙ sym (x .9 .ensures)) ∙ sym (x .10)) refl (sym (x .12 ∙ x .1 .given .1)) (sym (x .13 ∙ live)) (sym (x .14))),
     ))
     (λ x. (
       omega arith,
@@ -173,7 +228,20 @@ plain-spec =
     enum-told-2
     whilelo-requires
     enum-told-3
+    cast-v
+    mul-v
+    element-copy-out-v
+    cast-dn
+    mul-dn
+    element-copy-out-dn
     pnext-requires
+    cast-t51
+    mul-t52
+    element-set-from-state
+    of-requires
+    cast-position
+    mul-position
+    element-copy-out-position
     position-requires
     mul-list
     slice-write-list

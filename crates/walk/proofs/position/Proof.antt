@@ -4,14 +4,8 @@ use Rattle.walk.proofs.Outcomes.{at-none, at-element}
 use Rattle.walk.proofs.position.Statement.{statement}
 use Rattle.walk.proofs.position.Tie as tie
 
-read-p-requires : tie.Need-read-p-requires
-read-p-requires c κs = search needs
-
 after-last-requires : tie.Need-after-last-requires
 after-last-requires c κs = search needs
-
-read-x-requires : tie.Need-read-x-requires
-read-x-requires c κs = search needs
 
 returns : tie.Need-returns
 returns c = search (at-none, needs)
@@ -28,11 +22,4 @@ returns-2 c = search (at-element, needs)
 pub position-spec : {M : Type 1} → statement M
 position-spec =
     tie.close
-    (tie.spec
-    read-p-requires
-    after-last-requires
-    read-x-requires
-    returns
-    sub-wrapping-add-u64
-    wrapping-add-u64-requires
-    returns-2)
+    (tie.spec after-last-requires returns sub-wrapping-add-u64 wrapping-add-u64-requires returns-2)

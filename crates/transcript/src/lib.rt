@@ -1,0 +1,47 @@
+// The program's work: from an image's bytes to the lines that it writes.
+ghost use mathlib.Core.Bool.{true};
+ghost use mathlib.Core.Path.{_≡_};
+ghost use Prim.Native.Nat.{_≤_};
+ghost use lib.ListN.{length};
+ghost use Rattle.registers.specs.Legal.{legal};
+ghost use Rattle.transcript.specs.Transcript.{linesOf, transcriptOf, afterAll, placedAll};
+use registers::State;
+
+// The lines of an image, put into the lent buffer; how many bytes they have. Its words are put in the lent list.
+pub fn transcript(image: &[u8], words: &mut [u32], out: &mut [u8]) -> usize
+    ensures { λ r. ⌜ r ≡ afterAll (transcriptOf (length (now (words .entry))) (now (image .entry))) 0 (length (now (out .entry))) ⌝ }
+    ensures { λ r. ⌜ now (out .exit) ≡ placedAll (transcriptOf (length (now (words .entry))) (now (image .entry))) 0 (now (out .entry)) ⌝ }
+{
+    let reading = image::read(image, words);
+    let reply = reading.reply;
+    if reply.number() != 0 {
+        return report::image_line(reply.number(), 0, out);
+    }
+    let state = reading.state;
+    let count = reading.count;
+    word_lines(state, &words[..count], out)
+}
+
+// The words stepped from a legal state: the reader has tested it, and an instruction keeps it.
+fn word_lines(state: State, words: &[u32], out: &mut [u8]) -> usize
+    requires { ⌜ (legal state ≡ true) × (length (now words) ≤ 4096) ⌝ }
+    ensures { λ r. ⌜ r ≡ afterAll (linesOf state 0 (now (words .entry))) 0 (length (now (out .entry))) ⌝ }
+    ensures { λ r. ⌜ now (out .exit) ≡ placedAll (linesOf state 0 (now (words .entry))) 0 (now (out .entry)) ⌝ }
+{
+    let mut s = state;
+    let mut at = 0;
+    let mut done = 0;
+    while done < words.len() {
+        let word = words[done];
+        let stepped = machine::after_word(s, words::decode(word));
+        let reply = stepped.reply;
+        s = stepped.state;
+        let flags = s.flags;
+        at = report::word_line(done as u32, word, reply.number(), flags, at, out);
+        if reply.number() != 0 {
+            return report::end_line(done as u32, at, out);
+        }
+        done += 1;
+    }
+    report::end_line(done as u32, at, out)
+}
