@@ -12,6 +12,7 @@ ghost use Rattle.bits.specs.Search.{count};
 ghost use Rattle.instructions.specs.Counter.{expanded};
 ghost use Rattle.instructions.specs.Instructions.{incDec, saturatingIncDec, cntp as cntpOf, cntpCounter};
 
+// INCP and DECP: they wrap.
 pub fn inc_dec(decrement: bool, size: Size, rdn: u8, x: u64, m: Predicate, vl: u64) -> Effect
     ensures { λ e. ⌜ e ≡ incDec decrement size rdn x m vl ⌝ }
 {
@@ -22,6 +23,7 @@ pub fn inc_dec(decrement: bool, size: Size, rdn: u8, x: u64, m: Predicate, vl: u
     writes_x(rdn, std::num::wrapping_add_u64(x, n))
 }
 
+// SQINCP, SQDECP, UQINCP and UQDECP.
 pub fn saturating(
     decrement: bool,
     unsigned: bool,
@@ -38,12 +40,14 @@ pub fn saturating(
     writes_x(rdn, scalars::saturate(decrement, unsigned, wide, x, n))
 }
 
+// CNTP: elements true in both predicates.
 pub fn cntp(size: Size, rd: u8, g: Predicate, n: Predicate, vl: u64) -> Effect
     ensures { λ e. ⌜ e ≡ cntpOf size rd g n vl ⌝ }
 {
     writes_x(rd, g.and(n).count_active(vl, size))
 }
 
+// CNTP of a counter: of the elements of two vectors, or of four.
 pub fn cntp_counter(four: bool, size: Size, rd: u8, pn: Predicate, vl: u64) -> Effect
     ensures { λ e. ⌜ e ≡ cntpCounter four size rd pn vl ⌝ }
 {

@@ -3,6 +3,7 @@ use words::Instruction;
 ghost use mathlib.Core.Path.{_≡_};
 ghost use Rattle.instructions.specs.Registers.{firstX, secondX, firstP, secondP};
 
+// The first X register that is read.
 pub fn first_x(i: Instruction) -> u8
     ensures { λ r. ⌜ r ≡ firstX i ⌝ }
 {
@@ -19,6 +20,7 @@ pub fn first_x(i: Instruction) -> u8
     }
 }
 
+// The second: WHILE's limit.
 pub fn second_x(i: Instruction) -> u8
     ensures { λ r. ⌜ r ≡ secondX i ⌝ }
 {
@@ -35,6 +37,7 @@ pub fn second_x(i: Instruction) -> u8
     }
 }
 
+// The first P register that is read; the mask, where there is one.
 pub fn first_p(i: Instruction) -> u8
     ensures { λ r. ⌜ r ≡ firstP i ⌝ }
 {
@@ -51,6 +54,7 @@ pub fn first_p(i: Instruction) -> u8
     }
 }
 
+// The second: the predicate under the mask.
 pub fn second_p(i: Instruction) -> u8
     ensures { λ r. ⌜ r ≡ secondP i ⌝ }
 {

@@ -29,6 +29,7 @@ fn next(size: Size, v: Predicate, dn: Predicate, vl: u64) -> Predicate
     Predicate::none()
 }
 
+// PNEXT: `v` is the mask, `dn` the predicate that is written.
 pub fn pnext(size: Size, pdn: u8, v: Predicate, dn: Predicate, vl: u64) -> Effect
     ensures { λ e. ⌜ e ≡ pnextOf size pdn v dn vl ⌝ }
 {
@@ -46,6 +47,7 @@ fn first(g: Predicate, dn: Predicate, vl: u64) -> Predicate
     dn
 }
 
+// PFIRST, by bytes.
 pub fn pfirst(pdn: u8, g: Predicate, dn: Predicate, vl: u64) -> Effect
     ensures { λ e. ⌜ e ≡ pfirstOf pdn g dn vl ⌝ }
 {
@@ -53,6 +55,7 @@ pub fn pfirst(pdn: u8, g: Predicate, dn: Predicate, vl: u64) -> Effect
     writes_p(pdn as u64, q, predicates::pred_test(g, q, vl, Size::B))
 }
 
+// PTEST, by bytes: it writes the flags alone.
 pub fn ptest(g: Predicate, n: Predicate, vl: u64) -> Effect
     ensures { λ e. ⌜ e ≡ ptestOf g n vl ⌝ }
 {
@@ -63,6 +66,7 @@ pub fn ptest(g: Predicate, n: Predicate, vl: u64) -> Effect
     )
 }
 
+// PFALSE: it keeps the flags.
 pub fn pfalse(pd: u8) -> Effect
     ensures { λ e. ⌜ e ≡ writesP pd allFalse ⌝ }
 {

@@ -52,6 +52,7 @@ fn while_flags(up: bool, c: u64, n: u64) -> u64
     predicates::nzcv(all, none, none)
 }
 
+// Into one predicate; `wide` compares whole registers, else low words.
 pub fn while_one(
     condition: Condition,
     unsigned: bool,
@@ -84,6 +85,7 @@ fn past(x: u64, n: u64) -> u64
     if x < n { 0 } else { x - n }
 }
 
+// Into P(2 pd) and P(2 pd + 1): the elements of two vectors.
 pub fn while_pair(
     condition: Condition,
     unsigned: bool,
@@ -158,6 +160,7 @@ fn counter_flags(up: bool, g: u64, n: u64) -> u64
     predicates::nzcv(n == g, n == 0, n == 0)
 }
 
+// Into the counter P(8 + pnd): how many elements of a group are true.
 pub fn while_counter(
     condition: Condition,
     unsigned: bool,

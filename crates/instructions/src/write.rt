@@ -5,6 +5,7 @@ ghost use mathlib.Core.Path.{_≡_};
 ghost use Rattle.instructions.specs.Effect.{writesX};
 ghost use Rattle.predicates.specs.Predicate.{allFalse};
 
+// Xr becomes `v`; the flags stay.
 pub fn writes_x(r: u8, v: u64) -> Effect
     ensures { λ e. ⌜ e ≡ writesX r v ⌝ }
 {

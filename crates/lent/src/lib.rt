@@ -5,6 +5,7 @@ use machine::Machine;
 use registers::Reply;
 use registers::State;
 
+// The reply; the state is changed where it stands, and is as it was if the word is refused.
 pub fn step(s: &mut State, word: u32) -> Reply
     ensures { λ r. ⌜ (r ≡ stepOf (now (s .entry)) word .reply) × (now (s .exit) ≡ stepOf (now (s .entry)) word .state) ⌝ }
 {

@@ -50,9 +50,10 @@ impl Machine {
     {
         let mut state = self.state;
         if !state.is_legal() {
+            let reply = Reply::IllegalState;
             return Ran {
                 done: 0,
-                reply: Reply::IllegalState,
+                reply,
                 state,
             };
         }

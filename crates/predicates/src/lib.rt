@@ -57,6 +57,7 @@ impl Predicate {
         }
     }
 
+    // Bit by bit.
     pub fn and(self, other: Predicate) -> Predicate
         ensures { λ r. ⌜ r ≡ pack (λ b. bitAt self b && bitAt other b) ⌝ }
     {
@@ -67,6 +68,7 @@ impl Predicate {
         }
     }
 
+    // Bit by bit.
     pub fn or(self, other: Predicate) -> Predicate
         ensures { λ r. ⌜ r ≡ pack (λ b. bitAt self b || bitAt other b) ⌝ }
     {
@@ -77,6 +79,7 @@ impl Predicate {
         }
     }
 
+    // The bits that the other does not have.
     pub fn and_not(self, other: Predicate) -> Predicate
         ensures { λ r. ⌜ r ≡ pack (λ b. bitAt self b && not (bitAt other b)) ⌝ }
     {
@@ -92,6 +95,7 @@ impl Predicate {
         }
     }
 
+    // Whether no bit is set.
     pub fn is_empty(self) -> bool
         ensures { λ r. ⌜ r ≡ not (some (bitAt self) 256) ⌝ }
     {
@@ -141,6 +145,7 @@ impl Predicate {
         bits::bit_length(w[0])
     }
 
+    // Bit `b`; 0 from bit 256 on.
     pub fn bit(self, b: u64) -> bool
         ensures { λ r. ⌜ r ≡ bitAt self b ⌝ }
     {
@@ -151,6 +156,7 @@ impl Predicate {
         (self.words[i] >> (b % 64)) % 2 == 1
     }
 
+    // Whether an element's lowest bit is 1.
     pub fn is_active(self, size: Size, e: u64) -> bool
         ensures { λ r. ⌜ r ≡ active (shift size) self e ⌝ }
     {

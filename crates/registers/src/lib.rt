@@ -22,6 +22,7 @@ pub struct State {
 }
 
 impl State {
+    // A state of these settings and registers; nothing is tested.
     pub fn new(
         vl: u64,
         level: u8,
@@ -42,6 +43,7 @@ impl State {
         }
     }
 
+    // X0 to X30; number 31 and above read as zero.
     pub fn read_x(self, r: u64) -> u64
         ensures { λ v. ⌜ v ≡ readX self r ⌝ }
     {
@@ -49,6 +51,7 @@ impl State {
         if i < 31 { self.x[i] } else { 0 }
     }
 
+    // P0 to P15; number 16 and above read as all false.
     pub fn read_p(self, r: u64) -> Predicate
         ensures { λ q. ⌜ q ≡ readP self r ⌝ }
     {
@@ -59,6 +62,7 @@ impl State {
         Predicate::none()
     }
 
+    // The state with Xr anew; a write past X30 vanishes.
     pub fn with_x(mut self, r: u64, v: u64) -> State
         ensures { λ s. ⌜ s ≡ withX self r v ⌝ }
     {
@@ -69,6 +73,7 @@ impl State {
         self
     }
 
+    // The state with Pr anew; a write past P15 vanishes.
     pub fn with_p(mut self, r: u64, q: Predicate) -> State
         ensures { λ s. ⌜ s ≡ withP self r q ⌝ }
     {
@@ -79,6 +84,7 @@ impl State {
         self
     }
 
+    // The state with other flags.
     pub fn with_flags(mut self, flags: Flags) -> State
         ensures { λ s. ⌜ s ≡ withFlags self flags ⌝ }
     {
@@ -152,6 +158,7 @@ pub enum Reply {
 }
 
 impl Reply {
+    // The paper's number of a reply.
     pub fn number(self) -> u8
         ensures { λ r. ⌜ r ≡ numberOf self ⌝ }
     {

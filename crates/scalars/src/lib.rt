@@ -20,6 +20,7 @@ pub fn signed64(x: u64) -> i64
     -1 - ((0xffff_ffff_ffff_ffff - x) as i64)
 }
 
+// The bits of `x` in two's complement.
 pub fn signed32(x: u32) -> i32
     ensures { λ r. ⌜ r ≡ toZ w32 x ⌝ }
 {
@@ -46,6 +47,7 @@ pub fn low_word(x: u64) -> u32
     (x % 0x1_0000_0000) as u32
 }
 
+// Less and less or equal count up, the others down.
 pub fn counts_up(condition: Condition) -> bool
     ensures { λ r. ⌜ r ≡ upward condition ⌝ }
 {
