@@ -50,10 +50,9 @@ impl Machine {
     {
         let mut state = self.state;
         if !state.is_legal() {
-            let reply = Reply::IllegalState;
             return Ran {
                 done: 0,
-                reply,
+                reply: Reply::IllegalState,
                 state,
             };
         }
