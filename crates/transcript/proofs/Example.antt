@@ -6,12 +6,12 @@ use lib.ListN.{length, drop}
 use Rattle.bits.specs.Bits.{testBit, number, elementBit}
 use Rattle.bits.specs.Search.{count, some, afterLast, scan}
 use Rattle.predicates.specs.PredTest.{atLowest, atHighest, predTest, nzcv, flagsOf}
-use Rattle.predicates.specs.Predicate.{bitAt, pack, active, spread, elements, predicateLength, hasBitFrom, allFalse}
+use Rattle.predicates.specs.Predicate.{bitAt, pack, active, spread, elements, predicateLength, hasBitFrom}
 use Rattle.registers.specs.Legal.{isLength, hasStrayBit, illegal}
-use Rattle.registers.specs.State.{readX, readP, withX, withP, withFlags}
-use Rattle.words.specs.Words.{firstOf, decodeOf, wordOf}
+use Rattle.registers.specs.State.{withX, withP, withFlags}
+use Rattle.words.specs.Words.{firstOf}
 use Rattle.instructions.specs.Counter.{counterOf, counterFlags}
-use Rattle.instructions.specs.Instructions.{whileOne, whilePair, whileCounter, incDec, saturatingIncDec, pnext, computeOf}
+use Rattle.instructions.specs.Instructions.{whileOne, whilePair, whileCounter, pnext, computeOf}
 use Rattle.instructions.specs.While.{allHeld, whileElement}
 use Rattle.scalars.specs.While.{operandAt, comparison}
 use Rattle.machine.specs.Effect.{setFlags, apply}

@@ -1,12 +1,11 @@
 -- With enough room the buffer begins with the lines one after the other, and 86,026 bytes are enough. Assumes nothing.
 use mathlib.Core.Bool.{Bool, true, false}
 use mathlib.Core.List.{List, [], _∷_, _++_, append-assoc, append-nil}
-use mathlib.Core.Path.{_≡_, refl, sym, ap, ap₂, _∙_, subst}
-use Prim.Native.Nat.{ℕ, zero, suc, _+_, _*_, _^_, _≤_, _<_}
-use native.Mathlib.Nat.{le-trans}
+use mathlib.Core.Path.{_≡_, refl, sym, ap, ap₂, _∙_}
+use Prim.Native.Nat.{ℕ, suc, _+_, _*_, _≤_, _<_}
 use native.Mathlib.Omega.{arith}
-use lib.Dec.{eqb, leb, lit<, lit≤}
-use lib.ListN.{length, take, drop, length-append, length-take, length-drop, take-append-drop}
+use lib.Dec.{eqb, lit<}
+use lib.ListN.{length, take, drop, length-append, take-append-drop}
 use lib.Seq.{take-at, drop-at, drop-drop, length-take-le}
 use borrow.Author.Tests.{le-leb, eqb-true}
 use Rattle.bits.specs.Choice.{pick}
@@ -17,12 +16,11 @@ use Rattle.registers.specs.declared.State.{State}
 use Rattle.registers.specs.Reply.{numberOf}
 use Rattle.machine.specs.declared.Stepped.{Stepped}
 use Rattle.machine.specs.Step.{stepOf}
-use Rattle.image.specs.Bytes.{value}
-use Rattle.image.specs.Reading.{isDone, imageReply, stateOf, wordsOf, countOf, contentOf, wordsAt}
+use Rattle.image.specs.Reading.{isDone, imageReply, stateOf, wordsOf}
 use Rattle.image.proofs.Bytes.{length-parts}
 use Rattle.image.proofs.Sections.{done-of}
 use Rattle.image.proofs.Readings.{sound}
-use Rattle.report.specs.Lines.{decimal, wordLine, endLine, imageLine, after, placed}
+use Rattle.report.specs.Lines.{wordLine, endLine, imageLine, after, placed}
 use Rattle.report.proofs.Digits.{length-most}
 use Rattle.report.proofs.Places.{word-length, text-length}
 use Rattle.transcript.specs.Transcript.{linesOf, transcriptOf, afterAll, placedAll, text}

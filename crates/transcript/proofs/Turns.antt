@@ -1,10 +1,9 @@
 -- The lines of words, word by word. Assumes nothing.
 use mathlib.Core.Bool.{Bool, true, false}
 use mathlib.Core.List.{List, [], _∷_}
-use mathlib.Core.Path.{_≡_, refl, sym, ap, _∙_, subst}
+use mathlib.Core.Path.{_≡_, sym, ap, _∙_, subst}
 use Prim.Native.Nat.{ℕ, suc, _+_, _≤_, _<_}
 use native.Mathlib.Numerals.{add-one}
-use native.Mathlib.Omega.{arith}
 use lib.Dec.{eqb}
 use lib.ListN.{length, getD, drop, drop-of-length-le}
 use lib.Seq.{drop-cons}
@@ -16,7 +15,7 @@ use Rattle.registers.specs.Reply.{numberOf}
 use Rattle.words.specs.declared.Decoded.{Decoded}
 use Rattle.words.specs.Words.{decodeOf}
 use Rattle.machine.specs.declared.Stepped.{Stepped}
-use Rattle.machine.specs.Step.{afterWord, stepOf}
+use Rattle.machine.specs.Step.{afterWord}
 use Rattle.machine.proofs.Steps.{Kept, kept-on, step-legal}
 use Rattle.report.specs.Lines.{wordLine, endLine, after, placed}
 use Rattle.transcript.specs.Transcript.{linesOf, afterAll, placedAll}
