@@ -1,0 +1,102 @@
+// The library as C calls it: include/plokamyr.h declares these functions. Replies are the paper's numbers.
+ghost use mathlib.Core.Path.{_≡_};
+ghost use lib.ListN.{length};
+ghost use Rattle.registers.specs.Reply.{numberOf};
+ghost use Rattle.machine.specs.Step.{runOf, stepOf};
+ghost use Rattle.image.specs.Reading.{readOf, listAfter};
+ghost use Rattle.image.specs.Writing.{writtenOf, bufferAfter};
+ghost use Rattle.transcript.specs.Transcript.{transcriptOf, afterAll, placedAll};
+ghost use Rattle.capi.specs.Answers.{ranAs, readAs, writtenAs};
+use machine::Machine;
+use registers::State;
+
+#[repr(C)]
+pub struct Ran {
+    pub reply: u32,
+    pub done: usize,
+    pub state: State,
+}
+
+#[repr(C)]
+pub struct Walked {
+    pub reply: u32,
+    pub count: u64,
+    pub state: State,
+}
+
+#[repr(C)]
+pub struct Reading {
+    pub reply: u32,
+    pub count: usize,
+    pub state: State,
+}
+
+#[repr(C)]
+pub struct Written {
+    pub reply: u32,
+    pub length: usize,
+}
+
+// One instruction word, executed on the state where it stands.
+#[no_mangle]
+pub extern "C" fn plokamyr_step(state: &mut State, word: u32) -> u32
+    ensures { λ r. ⌜ (r ≡ numberOf (stepOf (now (state .entry)) word .reply)) × (now (state .exit) ≡ stepOf (now (state .entry)) word .state) ⌝ }
+{
+    let reply = lent::step(state, word);
+    reply.number() as u32
+}
+
+// The words executed one after the other, until one is refused.
+#[no_mangle]
+pub extern "C" fn plokamyr_run(state: State, words: &[u32]) -> Ran
+    ensures { λ r. ⌜ r ≡ ranAs (runOf state (now (words .entry))) ⌝ }
+{
+    let ran = Machine { state }.run(words);
+    let reply = ran.reply;
+    let state = ran.state;
+    Ran {
+        reply: reply.number() as u32,
+        done: ran.done,
+        state,
+    }
+}
+
+// An image's state, with its words put in the lent list.
+#[no_mangle]
+pub extern "C" fn plokamyr_read(image: &[u8], words: &mut [u32]) -> Reading
+    ensures { λ r. ⌜ r ≡ readAs (readOf (length (now (words .entry))) (now (image .entry))) ⌝ }
+    ensures { λ r. ⌜ now (words .exit) ≡ listAfter (now (image .entry)) (now (words .entry)) ⌝ }
+{
+    let reading = image::read(image, words);
+    let reply = reading.reply;
+    let state = reading.state;
+    Reading {
+        reply: reply.number() as u32,
+        count: reading.count,
+        state,
+    }
+}
+
+// The image of a state and words, at the front of the lent buffer.
+#[no_mangle]
+pub extern "C" fn plokamyr_write(state: State, words: &[u32], image: &mut [u8]) -> Written
+    ensures { λ r. ⌜ r ≡ writtenAs (writtenOf state (now (words .entry)) (length (now (image .entry)))) ⌝ }
+    ensures { λ r. ⌜ now (image .exit) ≡ bufferAfter state (now (words .entry)) (now (image .entry)) ⌝ }
+{
+    let written = image::write(state, words, image);
+    let reply = written.reply;
+    Written {
+        reply: reply.number() as u32,
+        length: written.length,
+    }
+}
+
+// The lines that the program writes for an image, in the lent buffer; how many bytes they have.
+#[no_mangle]
+pub extern "C" fn plokamyr_text(image: &[u8], text: &mut [u8]) -> usize
+    ensures { λ r. ⌜ r ≡ afterAll (transcriptOf 4096 (now (image .entry))) 0 (length (now (text .entry))) ⌝ }
+    ensures { λ r. ⌜ now (text .exit) ≡ placedAll (transcriptOf 4096 (now (image .entry))) 0 (now (text .entry)) ⌝ }
+{
+    let mut words = [0u32; 4096];
+    transcript::transcript(image, &mut words, text)
+}

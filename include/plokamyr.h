@@ -1,0 +1,148 @@
+/* Plokamyr: the predicate part of an Arm SVE interpreter, for C and C++.
+ *
+ * Every call is answered: nothing is left to the caller to check but what C cannot say. What the caller owes:
+ *   - a pointer is valid for its count of elements (null will do where the count is 0), and aligned as its type;
+ *   - the buffers of one call do not overlap;
+ *   - a bool is 0 or 1.
+ * A refusal carries its number and leaves every state and buffer as it was. PLOKAMYR_BUDGET_SPENT alone keeps the work done so far.
+ * No function keeps a pointer, allocates, or has state of its own: calls from several threads do not meet.
+ */
+#ifndef PLOKAMYR_H
+#define PLOKAMYR_H
+
+#include <stdbool.h>
+#include <stddef.h>
+#include <stdint.h>
+
+#ifdef __cplusplus
+extern "C" {
+#endif
+
+enum plokamyr_reply {
+    PLOKAMYR_DONE = 0,
+    PLOKAMYR_UNKNOWN_WORD = 1,        /* the word is no instruction of ours */
+    PLOKAMYR_LEVEL_TOO_LOW = 2,       /* the state's level is below the form's */
+    PLOKAMYR_ACCESS_OFF = 3,
+    PLOKAMYR_ILLEGAL_STATE = 4,       /* vl is none of the five, level above 3, or a predicate bit at or above vl / 8 */
+    PLOKAMYR_IMAGE_CUT = 5,           /* the image ends before a section does */
+    PLOKAMYR_NOT_ALLOWED = 6,         /* a count or a byte of an image that is not allowed */
+    PLOKAMYR_TRAILING_BYTES = 7,      /* bytes after the last section */
+    PLOKAMYR_BUFFER_TOO_SMALL = 8,
+    PLOKAMYR_FIELD_PAST_RANGE = 9,    /* of an instruction to be written */
+    PLOKAMYR_BAD_WALK_REGISTERS = 10, /* X past 31, P past 15, size past 3, n = 31, n = m, or d = k */
+    PLOKAMYR_LIST_TOO_SHORT = 11,     /* fewer places than positions to visit */
+    PLOKAMYR_BUDGET_SPENT = 12        /* the walk has not ended */
+};
+
+/* A predicate: bit b is bit b % 64 of words[b / 64]. */
+struct plokamyr_predicate {
+    uint64_t words[4];
+};
+
+struct plokamyr_flags {
+    bool n;
+    bool z;
+    bool c;
+    bool v;
+};
+
+struct plokamyr_state {
+    uint64_t vl;    /* the vector length in bits: 128, 256, 512, 1024 or 2048 */
+    uint8_t level;  /* 0 none, 1 SVE, 2 SVE2, 3 SVE2p1 */
+    bool access;
+    struct plokamyr_flags flags;
+    uint64_t x[31];
+    struct plokamyr_predicate p[16];
+};
+
+/* ---- steps ---- */
+
+/* Executes one instruction word on the state where it stands. Refusals, the first that applies: 4, 1, 2, 3. */
+enum plokamyr_reply plokamyr_step(struct plokamyr_state *state, uint32_t word);
+
+/* done words were executed, and state is what they left; reply is that to the word after them, or 0 if there is none. */
+struct plokamyr_ran {
+    enum plokamyr_reply reply;
+    size_t done;
+    struct plokamyr_state state;
+};
+
+/* Executes words one after the other until one is refused. An illegal state is refused (4) even if there are no words.
+ * The faster way for more than one word. */
+struct plokamyr_ran plokamyr_run(struct plokamyr_state state, const uint32_t *words, size_t count);
+
+/* ---- the walk ---- */
+
+/* count instructions were executed, and state is what they left; for a refusal other than 12, 0 and the given state. */
+struct plokamyr_walked {
+    enum plokamyr_reply reply;
+    uint64_t count;
+    struct plokamyr_state state;
+};
+
+/* PFALSE Pk; then WHILELO Pd from Xn to Xm, PNEXT Pk through Pd, INCP Xn by Pd, repeated until no lane is left.
+ * size is 0 to 3 for B, H, S, D. Each position visited goes to the next place of list, from the first on; other places stay.
+ * At most budget instructions are executed. With D = Xm - Xn (0 if Xn is at or above Xm), E elements in a vector and R = D / E rounded up,
+ * the walk ends exactly if budget is at least D + 3R + 2. Refusals, the first that applies: 4, 10, 2 (level 0), 3, 11, 12. */
+struct plokamyr_walked plokamyr_walk(struct plokamyr_state state, uint32_t size, uint32_t n, uint32_t m, uint32_t d, uint32_t k,
+                                     uint64_t *list, size_t places, uint64_t budget);
+
+/* ---- images ---- */
+
+#define PLOKAMYR_WORDS_MAX 4096  /* the words of an image */
+#define PLOKAMYR_IMAGE_MAX 17171 /* the bytes of an image */
+#define PLOKAMYR_TEXT_MAX 86026  /* the bytes of an image's text */
+
+/* count words stand in the lent list. For a refusal: 0, and a state of vl 128 with all else zero. */
+struct plokamyr_reading {
+    enum plokamyr_reply reply;
+    size_t count;
+    struct plokamyr_state state;
+};
+
+/* Reads an image, and puts its words at the front of words; other places stay. Refusals: 5 and 6 by the first section at fault, then 7, then 8. */
+struct plokamyr_reading plokamyr_read(const uint8_t *image, size_t length, uint32_t *words, size_t places);
+
+/* length bytes were written; for a refusal 0. */
+struct plokamyr_written {
+    enum plokamyr_reply reply;
+    size_t length;
+};
+
+/* Writes the image of a state and words at the front of image; other bytes stay. Refusals: 4, then 6 (more than 4,096 words), then 8. */
+struct plokamyr_written plokamyr_write(struct plokamyr_state state, const uint32_t *words, size_t count, uint8_t *image, size_t room);
+
+/* Writes what the program prints for an image: a line for each word stepped and `end`, or `image` and the reply alone. Answers how many bytes were written.
+ * There is no 0 after them. A line that has no room is left out whole; PLOKAMYR_TEXT_MAX bytes are room for any image. */
+size_t plokamyr_text(const uint8_t *image, size_t length, uint8_t *text, size_t room);
+
+/* ---- words ---- */
+
+/* An instruction as numbers: its form, then the fields of the form from the highest bit down, then zeros. */
+enum plokamyr_form {
+    PLOKAMYR_WHILE_ONE = 0,     /* size, Rm, sf, U, lt, Rn, eq, Pd */
+    PLOKAMYR_WHILE_PAIR = 1,    /* size, Rm, U, lt, Rn, Pd, eq: writes P(2 Pd) and P(2 Pd + 1) */
+    PLOKAMYR_WHILE_COUNTER = 2, /* size, Rm, vl, U, lt, Rn, eq, PNd: writes P(8 + PNd) */
+    PLOKAMYR_SATURATING = 3,    /* SQ/UQ INCP/DECP: size, D, U, sf, Pm, Rdn */
+    PLOKAMYR_INC_DEC = 4,       /* INCP/DECP: size, D, Pm, Rdn */
+    PLOKAMYR_CNTP = 5,          /* size, Pg, Pn, Rd */
+    PLOKAMYR_CNTP_COUNTER = 6,  /* size, vl, PNn, Rd */
+    PLOKAMYR_PNEXT = 7,         /* size, Pv, Pdn */
+    PLOKAMYR_PFIRST = 8,        /* Pg, Pdn */
+    PLOKAMYR_PTEST = 9,         /* Pg, Pn */
+    PLOKAMYR_PFALSE = 10        /* Pd */
+};
+
+#define PLOKAMYR_ROW 9
+
+/* Reads a word as an instruction. Refusal: 1. */
+enum plokamyr_reply plokamyr_decode(uint32_t word, uint8_t row[PLOKAMYR_ROW]);
+
+/* Writes an instruction as a word. Refusal: 9, for a form or a field past its range, or a number other than 0 after the form's fields. */
+enum plokamyr_reply plokamyr_encode(const uint8_t row[PLOKAMYR_ROW], uint32_t *word);
+
+#ifdef __cplusplus
+}
+#endif
+
+#endif
