@@ -3,10 +3,11 @@ ghost use mathlib.Core.Path.{_≡_};
 ghost use lib.ListN.{length};
 ghost use Rattle.registers.specs.Reply.{numberOf};
 ghost use Rattle.machine.specs.Step.{runOf, stepOf};
+ghost use Rattle.walk.specs.Walk.{walkOf, wholeOf};
 ghost use Rattle.image.specs.Reading.{readOf, listAfter};
 ghost use Rattle.image.specs.Writing.{writtenOf, bufferAfter};
 ghost use Rattle.transcript.specs.Transcript.{transcriptOf, afterAll, placedAll};
-ghost use Rattle.capi.specs.Answers.{ranAs, readAs, writtenAs};
+ghost use Rattle.capi.specs.Answers.{ranAs, walkedAs, readAs, writtenAs};
 use machine::Machine;
 use registers::State;
 
@@ -57,6 +58,31 @@ pub extern "C" fn plokamyr_run(state: State, words: &[u32]) -> Ran
     Ran {
         reply: reply.number() as u32,
         done: ran.done,
+        state,
+    }
+}
+
+// The walk from Xn to Xm with lanes Pd and cursor Pk: the positions visited go to the lent list.
+#[no_mangle]
+pub extern "C" fn plokamyr_walk(
+    state: State,
+    size: u32,
+    n: u32,
+    m: u32,
+    d: u32,
+    k: u32,
+    list: &mut [u64],
+    budget: u64,
+) -> Walked
+    ensures { λ r. ⌜ r ≡ walkedAs (walkOf size n m d k budget state (now (list .entry))) ⌝ }
+    ensures { λ r. ⌜ now (list .exit) ≡ wholeOf size n m d k budget state (now (list .entry)) .list ⌝ }
+{
+    let walked = walk::walk(state, size, n, m, d, k, list, budget);
+    let reply = walked.reply;
+    let state = walked.state;
+    Walked {
+        reply: reply.number() as u32,
+        count: walked.count,
         state,
     }
 }

@@ -6,35 +6,24 @@ use predicates::Predicate;
 ghost use mathlib.Core.Path.{_≡_};
 ghost use Rattle.predicates.specs.Predicate.{allFalse};
 ghost use Rattle.instructions.specs.Effect.{writesP, writesF};
-ghost use Rattle.instructions.specs.Instructions.{nextElement, nextOf, firstOf, pnext as pnextOf, pfirst as pfirstOf, ptest as ptestOf};
+ghost use Rattle.instructions.specs.Instructions.{firstOf, pnext as pnextOf, pfirst as pfirstOf, ptest as ptestOf};
 
-// The element that becomes the only true one, or the number of elements.
-pub fn next_element(size: Size, v: Predicate, dn: Predicate, vl: u64) -> u64
-    ensures { λ r. ⌜ r ≡ nextElement size v dn vl ⌝ }
-{
-    v.next_active(
-        size,
-        dn.after_last(vl, size),
-        predicates::elements(vl, size),
-    )
-}
-
-fn next(size: Size, v: Predicate, dn: Predicate, vl: u64) -> Predicate
-    ensures { λ r. ⌜ r ≡ nextOf size v dn vl ⌝ }
-{
-    let e = next_element(size, v, dn, vl);
-    if e < predicates::elements(vl, size) {
-        return Predicate::only_element(size, e);
-    }
-    Predicate::none()
-}
-
-// PNEXT: `v` is the mask, `dn` the predicate that is written.
+// PNEXT: `v` is the mask, `dn` the predicate that is written. An element that is found is active in the mask, so Z is clear.
 pub fn pnext(size: Size, pdn: u8, v: Predicate, dn: Predicate, vl: u64) -> Effect
     ensures { λ e. ⌜ e ≡ pnextOf size pdn v dn vl ⌝ }
 {
-    let q = next(size, v, dn, vl);
-    writes_p(pdn as u64, q, predicates::pred_test(v, q, vl, size))
+    let n = predicates::elements(vl, size);
+    let live = Predicate::live(vl, size);
+    let e = v.next_active(size, dn.and(live).end_element(size), n);
+    if n <= e {
+        return writes_p(
+            pdn as u64,
+            Predicate::none(),
+            predicates::nzcv(false, true, true),
+        );
+    }
+    let flags = predicates::test_only(v.and(live), e << size.shift());
+    writes_p(pdn as u64, Predicate::only_element(size, e), flags)
 }
 
 fn first(g: Predicate, dn: Predicate, vl: u64) -> Predicate

@@ -290,6 +290,11 @@ module _ (vl : ℕ) (size : Size) (p m : Predicate) (under : m ≡ pack (λ b. b
       ap (λ (x : Predicate). predTest (bitAt x) (bitAt r) 256) live-is
       ∙ test-same (shift size) (elements vl size) (elements-fit vl size) p r
 
+  pub active-live : (e : ℕ) → e < elements vl size → active (shift size) p e ≡ true → bitAt m (e * 2 ^ shift size) ≡ true
+  active-live e l h =
+      ap (λ (x : Predicate). bitAt x (e * 2 ^ shift size)) live-is ∙ pack-bit _ (e * 2 ^ shift size) (in-bits (shift size) (elements vl size) e l (elements-fit vl size))
+      ∙ spread-at (shift size) live e ∙ upto-at (elements vl size) (active (shift size) p) e l ∙ h
+
   -- the lowest bit is that of the first active element
   pub first-live : (e : ℕ) → e ≡ firstFrom (active (shift size) p) 0 (elements vl size) → e < elements vl size → e * 2 ^ shift size ≡ firstFrom (bitAt m) 0 256
   first-live e h l =

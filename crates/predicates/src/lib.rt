@@ -1,7 +1,7 @@
 // Predicates of up to 256 bits, in four words, and what their elements say.
 ghost use mathlib.Core.Path.{_≡_};
 ghost use mathlib.Core.Bool.{false, not, _&&_, _||_};
-ghost use Prim.Native.Nat.{_*_, _^_, _%_, min};
+ghost use Prim.Native.Nat.{_+_, _-_, _*_, _/_, _^_, _%_, min};
 ghost use lib.Dec.{eqb};
 ghost use Rattle.bits.specs.Bits.{testBit, number};
 ghost use Rattle.bits.specs.Choice.{digit};
@@ -233,7 +233,14 @@ impl Predicate {
     pub fn after_last(self, vl: u64, size: Size) -> u64
         ensures { λ r. ⌜ r ≡ afterLast (active (shift size) self) (elementsOf vl size) ⌝ }
     {
-        let end = self.and(Predicate::live(vl, size)).after_highest();
+        self.and(Predicate::live(vl, size)).end_element(size)
+    }
+
+    // One more than the highest element that has a bit set, or 0.
+    pub fn end_element(self, size: Size) -> u64
+        ensures { λ r. ⌜ r ≡ (afterLast (bitAt self) 256 + (2 ^ shift size - 1)) / 2 ^ shift size ⌝ }
+    {
+        let end = self.after_highest();
         let k = size.shift();
         (end + ((1 << k) - 1)) >> k
     }
@@ -360,6 +367,18 @@ pub fn test_bits(mask: Predicate, result: Predicate) -> u64
     let z = mask.and(result).is_empty();
     let c = at_highest(mask, result);
     nzcv(n, z, !c)
+}
+
+// PredTest over the 256 bits of a mask that has bit `b` and a result that has no other, as the number NZCV.
+pub fn test_only(mask: Predicate, b: u64) -> u64
+    ensures { λ r. ⌜ r ≡ nzcvOf (record { n = eqb (firstFrom (bitAt mask) 0 256) b; z = false; c = not (eqb (afterLast (bitAt mask) 256) (b + 1)); v = false }) ⌝ }
+{
+    let n = mask.lowest() == b;
+    let end = mask.after_highest();
+    if end == 0 {
+        return nzcv(n, false, true);
+    }
+    nzcv(n, false, end - 1 != b)
 }
 
 // PredTest over a vector's elements, as the number NZCV.

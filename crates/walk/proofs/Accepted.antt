@@ -80,6 +80,7 @@ accepted-within size n m d k s l e xs ps fits =
     let zero : n ≡ 31 → ⊥ = eqb-false n 31 (n₂ .0) in
     record {
       n-below = omega (arith, ltb-false 31 n (n₁ .0), zero);
+      m-below = omega (arith, ltb-false 31 m (m₁ .0));
       other-x = λ q. eqb-false n m (nm .0) (sym q);
       d-below = omega (arith, ltb-false 15 d (d₁ .0));
       k-below = omega (arith, ltb-false 15 k (k₁ .0));

@@ -57,6 +57,7 @@ module _ (l : List ℕ) (room : 37 ≤ length l) where
   within : (vl : ℕ) → 0 < elements vl Sz.B → Within Sz.B 1 2 0 1 (start vl 5 42) l
   within vl lanes = record {
     n-below = omega arith;
+    m-below = omega arith;
     other-x = λ e. omega (arith, e);
     d-below = omega arith;
     k-below = omega arith;

@@ -46,7 +46,7 @@ module _ (s : State) (z : Sized s) where
   no-second : (t : State) → length (t .p) ≡ 16 → withP t 16 allFalse ≡ t
   no-second t e = sym (withP-out t 16 allFalse (omega (arith, e)))
 
-  writes-x : (r v : ℕ) → apply s (writesX r v) ≡ withX s r v
+  pub writes-x : (r v : ℕ) → apply s (writesX r v) ≡ withX s r v
   unfolding apply setFlags withX
   writes-x r v =
       ap (λ (u : State). withP u 16 allFalse) (no-second (withX s r v) (z .ps)) ∙ no-second (withX s r v) (z .ps)
@@ -61,7 +61,7 @@ module _ (s : State) (z : Sized s) where
       ap (λ (u : State). withP (withP u r q) 16 allFalse) (sym (withX-out s 31 0 (omega (arith, z .xs))))
       ∙ no-second (withP s r q) (length-set (s .p) r q ∙ z .ps)
 
-  writes-pf : (r : ℕ) (q : Predicate) (f : Flags) → apply s (writesPF r q f) ≡ withP (withFlags s f) r q
+  pub writes-pf : (r : ℕ) (q : Predicate) (f : Flags) → apply s (writesPF r q f) ≡ withP (withFlags s f) r q
   unfolding apply withP withFlags
   writes-pf r q f =
       ap (λ (u : State). withP (withP (withX u 31 0) r q) 16 allFalse) (flags-set s f) ∙ ap (λ (u : State). withP (withP u r q) 16 allFalse) (no-x f)

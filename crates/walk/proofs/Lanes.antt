@@ -131,7 +131,7 @@ module _ (vl : ℕ) (size : Size) where
         hit = λ e h. absurd (omega (arith, h));
       })
 
-  last-single : (j : ℕ) → j < E → afterLast (active (shift size) (single size j)) E ≡ suc j
+  pub last-single : (j : ℕ) → j < E → afterLast (active (shift size) (single size j)) E ≡ suc j
   last-single j h = last-cong (active (shift size) (single size j)) (λ i. eqb i j) E (single-active j) ∙ last-of-one j E h
 
   lanes-count : (w : ℕ) → w ≤ E → count (active (shift size) (spanOf (shift size) 0 w)) E ≡ w

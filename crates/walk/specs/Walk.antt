@@ -81,6 +81,7 @@ walkOf size n m d k budget s l =
 -- what holds of a walk that is not refused
 pub record Within (size : Size) (n m d k : ℕ) (s : State) (l : List ℕ) : Type 0 where
   pub n-below : n < 31
+  pub m-below : m < 32
   pub other-x : m ≡ n → ⊥
   pub d-below : d < 16
   pub k-below : k < 16

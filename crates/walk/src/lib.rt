@@ -1,16 +1,11 @@
 // The walk: WHILELO, PNEXT through its lanes, INCP, repeated.
 ghost use mathlib.Core.Path.{_≡_};
-ghost use mathlib.Core.Bool.{true, false};
-ghost use Prim.Native.Nat.{_≤_};
-ghost use lib.ListN.{length};
-ghost use Rattle.registers.specs.declared.Reply.the-variants.{Done};
-ghost use Rattle.words.specs.declared.Condition.the-variants.{Less};
-ghost use Rattle.words.specs.declared.Target.the-variants.{One};
-ghost use Rattle.words.specs.declared.Instruction.the-variants.{While, IncDec, Pfalse};
+ghost use lib.ListN.{length, getD};
+ghost use Rattle.bits.specs.Choice.{pick};
+ghost use Rattle.registers.specs.declared.Reply.the-variants.{Done, BudgetSpent};
 ghost use Rattle.words.specs.Words.{sizeOf};
-ghost use Rattle.machine.specs.Step.{executeOf};
 ghost use Rattle.walk.specs.Plain.{run, begin};
-ghost use Rattle.walk.specs.Walk.{Within, machineOf, positionAt, walked, badRegisters, distance, refusalOf, wholeOf, walkOf};
+ghost use Rattle.walk.specs.Walk.{Within, machineOf, walked, badRegisters, refusalOf, wholeOf, walkOf};
 ghost use Rattle.walk.specs.Demand.{Demand3};
 use bits::Size;
 use predicates::Flags;
@@ -18,8 +13,6 @@ use predicates::Predicate;
 use registers::Reply;
 use registers::State;
 use words::Condition;
-use words::Instruction;
-use words::Target;
 
 // The instruction to come: PFALSE, WHILELO, PNEXT, INCP.
 pub enum Phase {
@@ -36,54 +29,15 @@ pub struct Walked {
     pub state: State,
 }
 
-fn pfalse(state: State, k: u8) -> State
-    ensures { λ r. ⌜ r ≡ executeOf state (Pfalse k) ⌝ }
+// X0 to X30; number 31 and above read as zero.
+fn x_at(x: &[u64], r: u8) -> u64
+    ensures { λ v. ⌜ v ≡ getD (now (x .entry)) r 0 ⌝ }
 {
-    machine::execute(state, Instruction::Pfalse { pd: k })
+    let i = r as usize;
+    if i < x.len() { x[i] } else { 0 }
 }
 
-fn whilelo(state: State, size: Size, n: u8, m: u8, d: u8) -> State
-    ensures { λ r. ⌜ r ≡ executeOf state (While Less true (One true d) size n m) ⌝ }
-{
-    machine::execute(
-        state,
-        Instruction::While {
-            condition: Condition::Less,
-            unsigned: true,
-            target: Target::One { wide: true, pd: d },
-            size,
-            rn: n,
-            rm: m,
-        },
-    )
-}
-
-fn incp(state: State, size: Size, n: u8, d: u8) -> State
-    ensures { λ r. ⌜ r ≡ executeOf state (IncDec false size d n) ⌝ }
-{
-    machine::execute(
-        state,
-        Instruction::IncDec {
-            decrement: false,
-            size,
-            pm: d,
-            rdn: n,
-        },
-    )
-}
-
-// Xn plus the number of Pk's true element.
-fn position(x: u64, cursor: Predicate, size: Size, vl: u64) -> u64
-    ensures { λ r. ⌜ r ≡ positionAt size x cursor vl ⌝ }
-{
-    let end = cursor.after_last(vl, size);
-    if end == 0 {
-        return x;
-    }
-    std::num::wrapping_add_u64(x, end - 1)
-}
-
-fn bad_registers(size: u8, n: u8, m: u8, d: u8, k: u8) -> bool
+fn bad_registers(size: u32, n: u32, m: u32, d: u32, k: u32) -> bool
     ensures { λ r. ⌜ r ≡ badRegisters size n m d k ⌝ }
 {
     if 31 < n {
@@ -111,7 +65,7 @@ fn bad_registers(size: u8, n: u8, m: u8, d: u8, k: u8) -> bool
 }
 
 // The first refusal that applies, or `Done`.
-fn refusal(state: State, size: u8, n: u8, m: u8, d: u8, k: u8, places: usize) -> Reply
+fn refusal(state: State, size: u32, n: u32, m: u32, d: u32, k: u32, places: usize) -> Reply
     ensures { λ r. ⌜ r ≡ refusalOf size n m d k state places ⌝ }
 {
     if !state.is_legal() {
@@ -137,7 +91,24 @@ fn refusal(state: State, size: u8, n: u8, m: u8, d: u8, k: u8, places: usize) ->
     Reply::Done
 }
 
-// The walk past its refusals, one instruction a turn.
+fn answer(ended: bool, count: u64, state: State) -> Walked
+    ensures { λ r. ⌜ r ≡ record { reply = pick ended Done BudgetSpent; count = count; state = state } ⌝ }
+{
+    if ended {
+        return Walked {
+            reply: Reply::Done,
+            count,
+            state,
+        };
+    }
+    Walked {
+        reply: Reply::BudgetSpent,
+        count,
+        state,
+    }
+}
+
+// The walk past its refusals, one instruction a turn, written where the state stands.
 fn plain(
     start: State,
     size: Size,
@@ -153,64 +124,71 @@ fn plain(
     ensures places { λ r. ⌜ now (list .exit) ≡ run (machineOf size n m d k) budget (begin start (now (list .entry))) .list ⌝ }
 {
     let mut state = start;
+    let elements = predicates::elements(state.vl, size);
+    let live = Predicate::live(state.vl, size);
     let mut phase = Phase::Clear;
     let mut ended = false;
     let mut used: usize = 0;
     let mut count: u64 = 0;
-    while count < budget {
-        if ended {
-            break;
-        }
+    while count < budget && !ended {
         match phase {
             Phase::Clear => {
-                state = pfalse(state, k);
+                state.p[k as usize] = Predicate::none();
                 phase = Phase::Select;
             }
             Phase::Select => {
-                state = whilelo(state, size, n, m, d);
+                let limit = x_at(&state.x, m);
+                let e = instructions::while_one(
+                    Condition::Less,
+                    true,
+                    true,
+                    d,
+                    size,
+                    state.x[n as usize],
+                    limit,
+                    state.vl,
+                );
+                let lanes = e.predicate;
+                state.p[d as usize] = lanes;
+                state.flags = Flags::of(e.flags);
                 ended = state.flags.z;
                 phase = Phase::Advance;
             }
             Phase::Advance => {
                 let v = state.p[d as usize];
                 let dn = state.p[k as usize];
-                let next = instructions::pnext(size, k, v, dn, state.vl);
-                let cursor = next.predicate;
-                state.p[k as usize] = cursor;
-                state.flags = Flags::of(next.flags);
-                if state.flags.z {
+                let e = v.next_active(size, dn.and(live).end_element(size), elements);
+                if elements <= e {
+                    state.p[k as usize] = Predicate::none();
+                    state.flags = Flags::of(predicates::nzcv(false, true, true));
                     phase = Phase::Add;
                 } else {
-                    list[used] = position(state.x[n as usize], cursor, size, state.vl);
+                    state.p[k as usize] = Predicate::only_element(size, e);
+                    state.flags = Flags::of(predicates::test_only(v.and(live), e << size.shift()));
+                    list[used] = std::num::wrapping_add_u64(state.x[n as usize], e);
                     used += 1;
                 }
             }
             Phase::Add => {
-                state = incp(state, size, n, d);
+                let lanes = state.p[d as usize];
+                let e = instructions::inc_dec(false, size, n, state.x[n as usize], lanes, state.vl);
+                state.x[n as usize] = e.value;
                 phase = Phase::Select;
             }
         }
         count += 1;
     }
-    Walked {
-        reply: if ended {
-            Reply::Done
-        } else {
-            Reply::BudgetSpent
-        },
-        count,
-        state,
-    }
+    answer(ended, count, state)
 }
 
 // The walk from Xn to Xm with lanes Pd and cursor Pk: each position visited goes to the next place of `list`.
 pub fn walk(
     state: State,
-    size: u8,
-    n: u8,
-    m: u8,
-    d: u8,
-    k: u8,
+    size: u32,
+    n: u32,
+    m: u32,
+    d: u32,
+    k: u32,
     list: &mut [u64],
     budget: u64,
 ) -> Walked
@@ -226,5 +204,14 @@ pub fn walk(
             state,
         };
     }
-    plain(state, words::size_of(size as u32), n, m, d, k, list, budget)
+    plain(
+        state,
+        words::size_of(size),
+        n as u8,
+        m as u8,
+        d as u8,
+        k as u8,
+        list,
+        budget,
+    )
 }

@@ -3,6 +3,7 @@ use mathlib.Core.List.{List}
 use mathlib.Core.Path.{_≡_, sym, ap, subst, subst₂, _∙_}
 use Prim.Native.Nat.{ℕ, _<_, _^_}
 use lib.ListN.{length}
+use native.Mathlib.Omega.{arith}
 use borrow.Author.Needs.{needs}
 use Rattle.bits.specs.declared.Size.{Size}
 use Rattle.registers.specs.declared.Reply.the-variants.{Done}
@@ -58,6 +59,23 @@ returns c =
 size-of-requires : tie.Need-size-of-requires
 size-of-requires c κs = search needs
 
+-- nothing is refused
+passed : (c : tie.After-size-of) → let a = c .before .before .before .before .before .args in
+    refusalOf (a .size) (a .n) (a .m) (a .d) (a .k) (a .state) (length (now (a .list))) ≡ Done
+passed c = sym (c .before .before .before .refusal .ensures) ∙ number-done _ (sym (c .before .before .number .ensures) ∙ c .before .if1 .left)
+
+cast-plain : tie.Need-cast-plain
+cast-plain c = omega (arith, within (c .before .before .before .before .before) (passed c) .n-below)
+
+cast-plain-2 : tie.Need-cast-plain-2
+cast-plain-2 c = omega (arith, within (c .before .before .before .before .before) (passed c) .m-below)
+
+cast-plain-3 : tie.Need-cast-plain-3
+cast-plain-3 c = omega (arith, within (c .before .before .before .before .before) (passed c) .d-below)
+
+cast-plain-4 : tie.Need-cast-plain-4
+cast-plain-4 c = omega (arith, within (c .before .before .before .before .before) (passed c) .k-below)
+
 plain-requires : tie.Need-plain-requires
 plain-requires c κs =
     let st = c .before .before .before .before .before .before in
@@ -93,6 +111,10 @@ walk-spec =
     number-requires
     returns
     size-of-requires
+    cast-plain
+    cast-plain-2
+    cast-plain-3
+    cast-plain-4
     plain-requires
     same-length
     returns-2)

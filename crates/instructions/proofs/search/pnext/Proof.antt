@@ -1,31 +1,116 @@
 -- `pnext` meets its contract. Assumes nothing.
-use mathlib.Core.Path.{ap, _∙_}
+use mathlib.Core.Path.{_≡_, ap, _∙_}
+use Prim.Native.Nat.{ℕ, _+_, _-_, _*_, _/_, _%_, _^_}
+use native.Mathlib.Omega.{arith}
 use borrow.Author.Needs.{needs}
+use Rattle.bits.specs.Search.{firstFrom, afterLast}
 use Rattle.bits.specs.Size.{shift}
-use Rattle.predicates.specs.declared.Predicate.{Predicate}
-use Rattle.predicates.specs.PredTest.{predTest, nzcv}
-use Rattle.predicates.specs.Predicate.{active, elements}
+use Rattle.bits.proofs.Sizes.{shift-lt, shifted}
+use Rattle.predicates.specs.PredTest.{nzcv}
+use Rattle.predicates.specs.Predicate.{bitAt, active}
+use Rattle.predicates.proofs.Live.{elements-le}
 use Rattle.instructions.specs.Instructions.{pnext}
 use Rattle.instructions.proofs.Effects.{one-is}
+use Rattle.instructions.proofs.Searched.{next-none, next-none-flags, next-found, next-found-flags}
 use Rattle.instructions.proofs.search.pnext.Statement.{statement}
 use Rattle.instructions.proofs.search.pnext.Tie as tie
 
-next-requires : tie.Need-next-requires
-next-requires c κs = search needs
+elements-requires : tie.Need-elements-requires
+elements-requires c κs = search needs
 
-pred-test-requires : tie.Need-pred-test-requires
-pred-test-requires c κs = search needs
+live-requires : tie.Need-live-requires
+live-requires c κs = search needs
+
+and-requires : tie.Need-and-requires
+and-requires c κs = search needs
+
+end-element-requires : tie.Need-end-element-requires
+end-element-requires c κs = search needs
+
+next-active-requires : tie.Need-next-active-requires
+next-active-requires c κs = search needs
+
+none-requires : tie.Need-none-requires
+none-requires c κs = search needs
+
+nzcv-requires : tie.Need-nzcv-requires
+nzcv-requires c κs = search needs
 
 writes-p-requires : tie.Need-writes-p-requires
 writes-p-requires c κs = search needs
 
+-- what the search has found
+searched : (c : tie.After-next-active) → let k = shift (c .before .before .before .before .before .args .size) in
+    c .next-active .result ≡ firstFrom (active k (c .before .before .before .before .before .args .v))
+    ((afterLast (bitAt (c .before .before .and .result)) 256 + (2 ^ k - 1)) / 2 ^ k) (c .before .before .before .before .elements .result)
+searched c =
+    let a = c .before .before .before .before .before .args in
+    c .next-active .ensures ∙ ap (λ (x : ℕ). firstFrom (active (shift (a .size)) (a .v)) x (c .before .before .before .before .elements .result)) (c .before .end-element .ensures)
+
 returns : tie.Need-returns
 unfolding pnext
 returns c =
-    let s = c .before .before .before in
-    let k = shift (s .args .size) in
-    one-is _ _ _ _ _ _ (c .writes-p .ensures) (c .before .before .next .ensures)
-    (c .before .pred-test .ensures ∙ ap (λ (q : Predicate). nzcv (predTest (active k (s .args .v)) (active k q) (elements (s .args .vl) (s .args .size)))) (c .before .before .next .ensures))
+    let s = c .before .before .before .before in
+    let a = s .before .before .before .before .before .args in
+    let live = s .before .before .before .live .ensures in
+    let under = s .before .before .and .ensures in
+    let n = s .before .before .before .before .elements .ensures in
+    one-is _ _ _ _ _ _ (c .writes-p .ensures)
+    (c .before .before .none .ensures ∙ next-none (a .size) (a .v) (a .dn) _ _ (a .vl) _ _ live under (searched s) n (c .before .before .before .if1 .taken))
+    (c .before .nzcv .ensures ∙ ap nzcv (next-none-flags (a .size) (a .v) (a .dn) _ _ (a .vl) _ _ live under (searched s) n (c .before .before .before .if1 .taken)))
+
+and-requires-2 : tie.Need-and-requires-2
+and-requires-2 c κs = search needs
+
+shift-requires : tie.Need-shift-requires
+shift-requires c κs = search needs
+
+shl-test-only : tie.Need-shl-test-only
+shl-test-only c = omega (arith, c .shift .ensures, shift-lt (c .before .before .before .before .before .before .before .before .args .size))
+
+test-only-requires : tie.Need-test-only-requires
+test-only-requires c κs = search needs
+
+only-element-requires : tie.Need-only-element-requires
+only-element-requires c κs = search needs
+
+writes-p-requires-2 : tie.Need-writes-p-requires-2
+writes-p-requires-2 c κs = search needs
+
+returns-2 : tie.Need-returns-2
+unfolding pnext
+returns-2 c =
+    let s = c .before .before .before .before .before .before in
+    let a = s .before .before .before .before .before .args in
+    let e = s .next-active .result in
+    let live = s .before .before .before .live .ensures in
+    let under = s .before .before .and .ensures in
+    let n = s .before .before .before .before .elements .ensures in
+    let found = c .before .before .before .before .before .if1 .left in
+    let at : (e * 2 ^ c .before .before .before .shift .result) % 2 ^ 64 ≡ e * 2 ^ shift (a .size) =
+    ap (λ (x : ℕ). (e * 2 ^ x) % 2 ^ 64) (c .before .before .before .shift .ensures) ∙ shifted e (shift (a .size)) (omega (arith, n, elements-le (a .vl) (a .size))) (shift-lt (a .size)) in
+    one-is _ _ _ _ _ _ (c .writes-p2 .ensures)
+    (c .before .only-element .ensures ∙ next-found (a .size) (a .v) (a .dn) _ _ (a .vl) _ _ live under (searched s) n (omega arith))
+    (c .before .before .test-only .ensures
+    ∙ ap nzcv (next-found-flags (a .size) (a .v) (a .dn) _ _ (a .vl) _ _ live under (searched s) n (omega arith) _ (c .before .before .before .before .and2 .ensures) _ at))
 
 pub pnext-spec : {M : Type 1} → statement M
-pnext-spec = tie.close (tie.spec next-requires pred-test-requires writes-p-requires returns)
+pnext-spec =
+    tie.close
+    (tie.spec
+    elements-requires
+    live-requires
+    and-requires
+    end-element-requires
+    next-active-requires
+    none-requires
+    nzcv-requires
+    writes-p-requires
+    returns
+    and-requires-2
+    shift-requires
+    shl-test-only
+    test-only-requires
+    only-element-requires
+    writes-p-requires-2
+    returns-2)
