@@ -10,14 +10,12 @@ mod select;
 mod write;
 
 use bits::Size;
-pub use count::inc_dec;
 pub use named::first_p;
 pub use named::first_x;
 pub use named::second_p;
 pub use named::second_x;
 use predicates::Predicate;
-pub use search::pnext;
-pub use select::while_one;
+pub use select::while_flags;
 use words::Condition;
 use words::Instruction;
 use words::Target;

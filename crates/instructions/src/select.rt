@@ -35,8 +35,8 @@ fn end_of(up: bool, c: u64, n: u64) -> u64
     n
 }
 
-// PredTest of those elements under an all-true mask; with no element N0 Z1 C1.
-fn while_flags(up: bool, c: u64, n: u64) -> u64
+// Of `n` elements with `c` true, counted up or down: PredTest under an all-true mask; with no element N0 Z1 C1.
+pub fn while_flags(up: bool, c: u64, n: u64) -> u64
     ensures { λ r. ⌜ r ≡ nzcv (record {
       n = pick up (not (eqb c 0)) (not (eqb c 0) && eqb c n);
       z = eqb c 0;

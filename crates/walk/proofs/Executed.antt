@@ -31,7 +31,7 @@ use Rattle.instructions.specs.Instructions.{whileOne, incDec, nextOf, pnext, co
 use Rattle.instructions.specs.While.{whileElement, every}
 use Rattle.scalars.specs.Value.{lowOf}
 use Rattle.scalars.specs.While.{operandAt, comparison, heldOf}
-use Rattle.instructions.proofs.Whiles.{while-elements, span-flags, spanFlags}
+use Rattle.instructions.proofs.Whiles.{held-le, while-elements, span-flags, spanFlags}
 
 -- ---- effects written
 
@@ -46,7 +46,7 @@ module _ (s : State) (z : Sized s) where
   no-second : (t : State) → length (t .p) ≡ 16 → withP t 16 allFalse ≡ t
   no-second t e = sym (withP-out t 16 allFalse (omega (arith, e)))
 
-  pub writes-x : (r v : ℕ) → apply s (writesX r v) ≡ withX s r v
+  writes-x : (r v : ℕ) → apply s (writesX r v) ≡ withX s r v
   unfolding apply setFlags withX
   writes-x r v =
       ap (λ (u : State). withP u 16 allFalse) (no-second (withX s r v) (z .ps)) ∙ no-second (withX s r v) (z .ps)
@@ -61,7 +61,7 @@ module _ (s : State) (z : Sized s) where
       ap (λ (u : State). withP (withP u r q) 16 allFalse) (sym (withX-out s 31 0 (omega (arith, z .xs))))
       ∙ no-second (withP s r q) (length-set (s .p) r q ∙ z .ps)
 
-  pub writes-pf : (r : ℕ) (q : Predicate) (f : Flags) → apply s (writesPF r q f) ≡ withP (withFlags s f) r q
+  writes-pf : (r : ℕ) (q : Predicate) (f : Flags) → apply s (writesPF r q f) ≡ withP (withFlags s f) r q
   unfolding apply withP withFlags
   writes-pf r q f =
       ap (λ (u : State). withP (withP (withX u 31 0) r q) 16 allFalse) (flags-set s f) ∙ ap (λ (u : State). withP (withP u r q) 16 allFalse) (no-x f)
@@ -98,19 +98,24 @@ module _ (s : State) (z : Sized s) (size : Size) where
   unfolding executeOf effectOf computeOf
   executes-pfalse k = writes-p s z k allFalse
 
-  pub executes-whilelo : (n m d a b c : ℕ) → readX s n ≡ a → readX s m ≡ b → a < 2 ^ 64 → b < 2 ^ 64 → c ≡ min (elements (s .vl) size) (b - a)
+  pub executes-held : (n m d c : ℕ) → c ≡ heldOf (comparison w64 true Less (lowOf w64 (readX s n)) (lowOf w64 (readX s m))) (elements (s .vl) size)
       → executeOf s (While Less true (One true d) size n m) ≡ withP (withFlags s (spanFlags true c (elements (s .vl) size))) d (spanOf (shift size) 0 c)
   unfolding executeOf effectOf computeOf whileOne
-  executes-whilelo n m d a b c ea eb ha hb ec =
+  executes-held n m d c is =
       let E = elements (s .vl) size in
       let held = comparison w64 true Less (lowOf w64 (readX s n)) (lowOf w64 (readX s m)) in
-      let low : (x y : ℕ) → x ≡ y → y < 2 ^ 64 → x % 2 ^ 64 ≡ y = λ x y e h. ap (λ (v : ℕ). v % 2 ^ 64) e ∙ mod-eq-of-lt h in
-      let is : c ≡ heldOf held E =
-      ec ∙ sym (held-is a b hb E) ∙ ap₂ (λ (x y : ℕ). heldOf (comparison w64 true Less x y) E) (sym (low _ a ea ha)) (sym (low _ b eb hb)) in
       let q : whileElement true held E ≡ between 0 c = while-elements held E c is true in
       writes-pf s z d _ _
       ∙ ap₂ (λ (p : Predicate) (f : Flags). withP (withFlags s f) d p) (ap (λ (x : ℕ → Bool). pack (spread (shift size) x)) q)
-      (ap (λ (x : ℕ → Bool). predTest every x E) q ∙ span-flags true c E (omega (arith, ec)))
+      (ap (λ (x : ℕ → Bool). predTest every x E) q ∙ span-flags true c E (omega (arith, is, held-le held E)))
+
+  pub executes-whilelo : (n m d a b c : ℕ) → readX s n ≡ a → readX s m ≡ b → a < 2 ^ 64 → b < 2 ^ 64 → c ≡ min (elements (s .vl) size) (b - a)
+      → executeOf s (While Less true (One true d) size n m) ≡ withP (withFlags s (spanFlags true c (elements (s .vl) size))) d (spanOf (shift size) 0 c)
+  executes-whilelo n m d a b c ea eb ha hb ec =
+      let low : (x y : ℕ) → x ≡ y → y < 2 ^ 64 → x % 2 ^ 64 ≡ y = λ x y e h. ap (λ (v : ℕ). v % 2 ^ 64) e ∙ mod-eq-of-lt h in
+      executes-held n m d c
+      (ec ∙ sym (held-is a b hb (elements (s .vl) size))
+      ∙ ap₂ (λ (x y : ℕ). heldOf (comparison w64 true Less x y) (elements (s .vl) size)) (sym (low _ a ea ha)) (sym (low _ b eb hb)))
 
   pub executes-pnext : (d k : ℕ) (v dn q : Predicate) → readP s d ≡ v → readP s k ≡ dn → q ≡ nextOf size v dn (s .vl)
       → executeOf s (Pnext size d k) ≡ withP (withFlags s (predTest (active (shift size) v) (active (shift size) q) (elements (s .vl) size))) k q

@@ -50,39 +50,39 @@ module _ (size : Size) (n m d k : ℕ) (s : State) (l : List ℕ) (g : Within si
   here : State
   here = base s n d k x pd pk f
 
-  sized : Sized (base s n d k x pd pk f)
+  pub sized : Sized (base s n d k x pd pk f)
   unfolding withX withP withFlags
   sized = record { xs = length-set (s .x) n x ∙ g .xs; ps = length-set (set (s .p) d pd) k pk ∙ length-set (s .p) d pd ∙ g .ps }
 
-  get-xn : readX (base s n d k x pd pk f) n ≡ x
+  pub get-xn : readX (base s n d k x pd pk f) n ≡ x
   unfolding withX withP withFlags
   get-xn = getD-set-same (s .x) n x 0 (omega (arith, g .xs, g .n-below))
 
-  get-xm : readX (base s n d k x pd pk f) m ≡ readX s m
+  pub get-xm : readX (base s n d k x pd pk f) m ≡ readX s m
   unfolding withX withP withFlags
   get-xm = getD-set-other (s .x) n m x 0 (g .other-x)
 
-  get-pk : readP (base s n d k x pd pk f) k ≡ pk
+  pub get-pk : readP (base s n d k x pd pk f) k ≡ pk
   unfolding withX withP withFlags
   get-pk = getD-set-same (set (s .p) d pd) k pk allFalse (omega (arith, length-set (s .p) d pd, g .ps, g .k-below))
 
-  get-pd : readP (base s n d k x pd pk f) d ≡ pd
+  pub get-pd : readP (base s n d k x pd pk f) d ≡ pd
   unfolding withX withP withFlags
   get-pd = getD-set-other (set (s .p) d pd) k d pk allFalse (g .other-p) ∙ getD-set-same (s .p) d pd allFalse (omega (arith, g .ps, g .d-below))
 
-  get-vl : base s n d k x pd pk f .vl ≡ s .vl
+  pub get-vl : base s n d k x pd pk f .vl ≡ s .vl
   unfolding withX withP withFlags
   get-vl = refl
 
-  put-pk : (q : Predicate) (h : Flags) → withP (withFlags (base s n d k x pd pk f) h) k q ≡ base s n d k x pd q h
+  pub put-pk : (q : Predicate) (h : Flags) → withP (withFlags (base s n d k x pd pk f) h) k q ≡ base s n d k x pd q h
   unfolding withX withP withFlags
   put-pk q h = rw (set-set (set (s .p) d pd) k pk q)
 
-  put-pd : (q : Predicate) (h : Flags) → withP (withFlags (base s n d k x pd pk f) h) d q ≡ base s n d k x q pk h
+  pub put-pd : (q : Predicate) (h : Flags) → withP (withFlags (base s n d k x pd pk f) h) d q ≡ base s n d k x q pk h
   unfolding withX withP withFlags
   put-pd q h = rw (set-comm (set (s .p) d pd) k d pk q (λ e. g .other-p (sym e)), set-set (s .p) d pd q)
 
-  put-xn : (v : ℕ) → withX (base s n d k x pd pk f) n v ≡ base s n d k v pd pk f
+  pub put-xn : (v : ℕ) → withX (base s n d k x pd pk f) n v ≡ base s n d k v pd pk f
   unfolding withX withP withFlags
   put-xn v = rw (set-set (s .x) n x v)
 

@@ -7,4 +7,4 @@ pub mod Demands
 pub mod Outcomes
 pub mod Accepted
 pub mod Examples
-pub mod InPlace
+pub mod Turns

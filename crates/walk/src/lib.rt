@@ -1,6 +1,6 @@
 // The walk: WHILELO, PNEXT through its lanes, INCP, repeated.
 ghost use mathlib.Core.Path.{_≡_};
-ghost use lib.ListN.{length, getD};
+ghost use lib.ListN.{length};
 ghost use Rattle.bits.specs.Choice.{pick};
 ghost use Rattle.registers.specs.declared.Reply.the-variants.{Done, BudgetSpent};
 ghost use Rattle.words.specs.Words.{sizeOf};
@@ -27,14 +27,6 @@ pub struct Walked {
     pub reply: Reply,
     pub count: u64,
     pub state: State,
-}
-
-// X0 to X30; number 31 and above read as zero.
-fn x_at(x: &[u64], r: u8) -> u64
-    ensures { λ v. ⌜ v ≡ getD (now (x .entry)) r 0 ⌝ }
-{
-    let i = r as usize;
-    if i < x.len() { x[i] } else { 0 }
 }
 
 fn bad_registers(size: u32, n: u32, m: u32, d: u32, k: u32) -> bool
@@ -108,7 +100,7 @@ fn answer(ended: bool, count: u64, state: State) -> Walked
     }
 }
 
-// The walk past its refusals, one instruction a turn, written where the state stands.
+// The walk past its refusals, one instruction a turn. What it writes (Xn, Pd, Pk and the flags) is held apart, and put in the state at the end.
 fn plain(
     start: State,
     size: Size,
@@ -123,9 +115,13 @@ fn plain(
     ensures answer { λ r. ⌜ r ≡ walked (run (machineOf size n m d k) budget (begin start (now (list .entry)))) ⌝ }
     ensures places { λ r. ⌜ now (list .exit) ≡ run (machineOf size n m d k) budget (begin start (now (list .entry))) .list ⌝ }
 {
-    let mut state = start;
-    let elements = predicates::elements(state.vl, size);
-    let live = Predicate::live(state.vl, size);
+    let elements = predicates::elements(start.vl, size);
+    let live = Predicate::live(start.vl, size);
+    let limit = start.read_x(m as u64);
+    let mut x = start.read_x(n as u64);
+    let mut lanes = start.read_p(d as u64);
+    let mut cursor = start.read_p(k as u64);
+    let mut flags = start.flags;
     let mut phase = Phase::Clear;
     let mut ended = false;
     let mut used: usize = 0;
@@ -133,52 +129,41 @@ fn plain(
     while count < budget && !ended {
         match phase {
             Phase::Clear => {
-                state.p[k as usize] = Predicate::none();
+                cursor = Predicate::none();
                 phase = Phase::Select;
             }
             Phase::Select => {
-                let limit = x_at(&state.x, m);
-                let e = instructions::while_one(
-                    Condition::Less,
-                    true,
-                    true,
-                    d,
-                    size,
-                    state.x[n as usize],
-                    limit,
-                    state.vl,
-                );
-                let lanes = e.predicate;
-                state.p[d as usize] = lanes;
-                state.flags = Flags::of(e.flags);
-                ended = state.flags.z;
+                let held = scalars::held(Condition::Less, true, true, x, limit, elements);
+                lanes = Predicate::first(size, held);
+                flags = Flags::of(instructions::while_flags(true, held, elements));
+                ended = held == 0;
                 phase = Phase::Advance;
             }
             Phase::Advance => {
-                let v = state.p[d as usize];
-                let dn = state.p[k as usize];
-                let e = v.next_active(size, dn.and(live).end_element(size), elements);
+                let e = lanes.next_active(size, cursor.and(live).end_element(size), elements);
                 if elements <= e {
-                    state.p[k as usize] = Predicate::none();
-                    state.flags = Flags::of(predicates::nzcv(false, true, true));
+                    cursor = Predicate::none();
+                    flags = Flags::of(predicates::nzcv(false, true, true));
                     phase = Phase::Add;
                 } else {
-                    state.p[k as usize] = Predicate::only_element(size, e);
-                    state.flags = Flags::of(predicates::test_only(v.and(live), e << size.shift()));
-                    list[used] = std::num::wrapping_add_u64(state.x[n as usize], e);
+                    cursor = Predicate::only_element(size, e);
+                    flags = Flags::of(predicates::test_only(lanes.and(live), e << size.shift()));
+                    list[used] = std::num::wrapping_add_u64(x, e);
                     used += 1;
                 }
             }
             Phase::Add => {
-                let lanes = state.p[d as usize];
-                let e = instructions::inc_dec(false, size, n, state.x[n as usize], lanes, state.vl);
-                state.x[n as usize] = e.value;
+                x = std::num::wrapping_add_u64(x, lanes.and(live).count());
                 phase = Phase::Select;
             }
         }
         count += 1;
     }
-    answer(ended, count, state)
+    let state = start
+        .with_x(n as u64, x)
+        .with_p(d as u64, lanes)
+        .with_p(k as u64, cursor);
+    answer(ended, count, state.with_flags(flags))
 }
 
 // The walk from Xn to Xm with lanes Pd and cursor Pk: each position visited goes to the next place of `list`.

@@ -1,0 +1,111 @@
+-- The four instructions on a state whose Xn, Pd, Pk and flags are held apart. Assumes nothing.
+use mathlib.Core.Bool.{true, false, not, _&&_}
+use mathlib.Core.List.{List}
+use mathlib.Core.Path.{_≡_, refl, sym, ap, ap₂, _∙_}
+use Prim.Native.Nat.{ℕ, suc, _+_, _-_, _*_, _/_, _%_, _^_, _≤_, _<_}
+use native.Mathlib.Omega.{arith}
+use lib.Dec.{eqb}
+use lib.Seq.{set-getD}
+use mir.Syntax.{w64}
+use Rattle.bits.specs.declared.Size.{Size}
+use Rattle.bits.specs.Search.{count, firstFrom, afterLast}
+use Rattle.bits.specs.Size.{shift}
+use Rattle.predicates.specs.declared.Flags.{Flags}
+use Rattle.predicates.specs.declared.Predicate.{Predicate}
+use Rattle.predicates.specs.PredTest.{predTest, nzcv, flagsOf}
+use Rattle.predicates.specs.Predicate.{bitAt, pack, allFalse, active, spread, spanOf, elements, liveOf}
+use Rattle.predicates.proofs.Flagging.{flags-back}
+use Rattle.predicates.proofs.Live.{count-live}
+use Rattle.registers.specs.declared.State.{State}
+use Rattle.registers.specs.State.{readX, readP, withX, withP, withFlags}
+use Rattle.words.specs.declared.Condition.the-variants.{Less}
+use Rattle.words.specs.declared.Target.the-variants.{One}
+use Rattle.words.specs.declared.Instruction.the-variants.{While, IncDec, Pnext, Pfalse}
+use Rattle.scalars.specs.Value.{lowOf}
+use Rattle.scalars.specs.While.{comparison, heldOf}
+use Rattle.machine.specs.Step.{executeOf}
+use Rattle.instructions.specs.Instructions.{nextOf}
+use Rattle.instructions.proofs.Searched.{next-none, next-none-flags, next-found, next-found-flags}
+use Rattle.instructions.proofs.Whiles.{spanFlags}
+use Rattle.walk.specs.Walk.{Within, positionAt, positionOf}
+use Rattle.walk.proofs.Executed.{executes-pfalse, executes-held, executes-pnext, executes-incp}
+use Rattle.walk.proofs.Lanes.{base, sized, get-xn, get-xm, get-pk, get-pd, put-pk, put-pd, put-xn, last-single}
+
+pub z-flag : (s : State) (n d k x : ℕ) (pd pk : Predicate) (f : Flags) → base s n d k x pd pk f .flags .z ≡ f .z
+unfolding withFlags
+z-flag s n d k x pd pk f = refl
+
+module _ (size : Size) (n m d k : ℕ) (s : State) (l : List ℕ) (g : Within size n m d k s l) where
+  pub begins : base s n d k (readX s n) (readP s d) (readP s k) (s .flags) ≡ s
+  unfolding withX withP withFlags
+  begins = rw (set-getD (s .x) n 0, set-getD (s .p) d allFalse, set-getD (s .p) k allFalse)
+
+  module _ (x : ℕ) (pd pk : Predicate) (f : Flags) where
+    abbrev here : State
+    here = base s n d k x pd pk f
+
+    pub clears : (q : Predicate) → q ≡ allFalse → base s n d k x pd q f ≡ executeOf here (Pfalse k)
+    unfolding withX withP withFlags
+    clears q e = ap (λ (p : Predicate). base s n d k x pd p f) e ∙ sym (executes-pfalse here (sized size n m d k s l g x pd pk f) size k ∙ put-pk size n m d k s l g x pd pk f allFalse f)
+
+    pub selects : (limit e c w : ℕ) (q : Predicate) (h : Flags) → limit ≡ readX s m → e ≡ elements (s .vl) size
+        → c ≡ heldOf (comparison w64 true Less (lowOf w64 x) (lowOf w64 limit)) e → q ≡ spanOf (shift size) 0 c → w ≡ nzcv (spanFlags true c e) → h ≡ flagsOf w
+        → (base s n d k x q pk h ≡ executeOf here (While Less true (One true d) size n m)) × (h .z ≡ eqb c 0)
+    unfolding withX withP withFlags
+    selects limit e c w q h il ie ic iq iw ih =
+        let flags = ih ∙ ap flagsOf iw ∙ flags-back _ ∙ ap (spanFlags true c) ie in
+        let held = ic ∙ ap (λ (j : ℕ). heldOf (comparison w64 true Less (lowOf w64 x) (lowOf w64 limit)) j) ie
+        ∙ ap₂ (λ (a b : ℕ). heldOf (comparison w64 true Less (lowOf w64 a) (lowOf w64 b)) (elements (s .vl) size)) (sym (get-xn size n m d k s l g x pd pk f)) (il ∙ sym (get-xm size n m d k s l g x pd pk f)) in (
+          ap₂ (λ (p : Predicate) (y : Flags). base s n d k x p pk y) iq flags
+              ∙ sym (executes-held here (sized size n m d k s l g x pd pk f) size n m d c held ∙ put-pd size n m d k s l g x pd pk f _ _),
+          ap (λ (y : Flags). y .z) flags,
+        )
+
+    pub adds : (v w : Predicate) (c y : ℕ) → v ≡ liveOf (s .vl) size → w ≡ pack (λ b. bitAt pd b && bitAt v b) → c ≡ count (bitAt w) 256 → y ≡ (x + c) % 2 ^ 64
+        → base s n d k y pd pk f ≡ executeOf here (IncDec false size d n)
+    unfolding withX withP withFlags
+    adds v w c y live under counted sum =
+        let is = counted ∙ count-live (s .vl) size pd w (under ∙ ap (λ (q : Predicate). pack (λ b. bitAt pd b && bitAt q b)) live) in
+        let all = sum ∙ ap (λ (j : ℕ). (x + j) % 2 ^ 64) is
+        ∙ ap₂ (λ (a : ℕ) (p : Predicate). (a + count (active (shift size) p) (elements (s .vl) size)) % 2 ^ 64) (sym (get-xn size n m d k s l g x pd pk f)) (sym (get-pd size n m d k s l g x pd pk f)) in
+        sym (executes-incp here (sized size n m d k s l g x pd pk f) size n d y (sym all) ∙ put-xn size n m d k s l g x pd pk f y)
+
+    -- PNEXT, by what its search found
+    module _ (v w : Predicate) (e i from : ℕ) (live : v ≡ liveOf (s .vl) size) (under : w ≡ pack (λ b. bitAt pk b && bitAt v b))
+        (from-is : from ≡ (afterLast (bitAt w) 256 + (2 ^ shift size - 1)) / 2 ^ shift size) (search-is : e ≡ firstFrom (active (shift size) pd) from i) (elements-are : i ≡ elements (s .vl) size) where
+      searched : e ≡ firstFrom (active (shift size) pd) ((afterLast (bitAt w) 256 + (2 ^ shift size - 1)) / 2 ^ shift size) i
+      searched = search-is ∙ ap (λ (j : ℕ). firstFrom (active (shift size) pd) j i) from-is
+
+      abbrev next : Predicate
+      next = nextOf size pd pk (s .vl)
+
+      advances : (q : Predicate) (h : Flags) → q ≡ next → h ≡ predTest (active (shift size) pd) (active (shift size) next) (elements (s .vl) size) → base s n d k x pd q h ≡ executeOf here (Pnext size d k)
+      unfolding withX withP withFlags
+      advances q h iq ih =
+          ap₂ (λ (p : Predicate) (y : Flags). base s n d k x pd p y) iq ih
+          ∙ sym (executes-pnext here (sized size n m d k s l g x pd pk f) size d k pd pk next (get-pd size n m d k s l g x pd pk f) (get-pk size n m d k s l g x pd pk f) refl ∙ put-pk size n m d k s l g x pd pk f _ _)
+
+      pub advances-past : i ≤ e → (q : Predicate) (c : ℕ) (h : Flags) → q ≡ allFalse → c ≡ nzcv (record { n = false; z = true; c = true; v = false }) → h ≡ flagsOf c
+          → (base s n d k x pd q h ≡ executeOf here (Pnext size d k)) × (h .z ≡ true)
+      advances-past past q c h iq ic ih =
+          let flags = ih ∙ ap flagsOf ic ∙ flags-back _ in (
+            advances q h (iq ∙ next-none size pd pk v w (s .vl) e i live under searched elements-are past) (flags ∙ next-none-flags size pd pk v w (s .vl) e i live under searched elements-are past),
+            ap (λ (y : Flags). y .z) flags,
+          )
+
+      pub advances-to : e < i → (q u : Predicate) (b c : ℕ) (h : Flags) → q ≡ pack (spread (shift size) (λ j. eqb j e)) → u ≡ pack (λ j. bitAt pd j && bitAt v j) → b ≡ e * 2 ^ shift size
+          → c ≡ nzcv (record { n = eqb (firstFrom (bitAt u) 0 256) b; z = false; c = not (eqb (afterLast (bitAt u) 256) (b + 1)); v = false }) → h ≡ flagsOf c
+          → (base s n d k x pd q h ≡ executeOf here (Pnext size d k)) × (h .z ≡ false)
+      advances-to found q u b c h iq masked at ic ih =
+          let flags = ih ∙ ap flagsOf ic ∙ flags-back _ in (
+            advances q h (iq ∙ next-found size pd pk v w (s .vl) e i live under searched elements-are found)
+                (flags ∙ next-found-flags size pd pk v w (s .vl) e i live under searched elements-are found u masked b at),
+            ap (λ (y : Flags). y .z) flags,
+          )
+
+      pub visits : e < i → (q : Predicate) (h : Flags) → q ≡ pack (spread (shift size) (λ j. eqb j e)) → positionOf size n k (base s n d k x pd q h) ≡ (x + e) % 2 ^ 64
+      unfolding positionAt withX withP withFlags
+      visits found q h iq =
+          let same : suc e - 1 ≡ e = omega arith in
+          ap₂ (λ (a : ℕ) (p : Predicate). (a + (afterLast (active (shift size) p) (elements (s .vl) size) - 1)) % 2 ^ 64) (get-xn size n m d k s l g x pd q h) (get-pk size n m d k s l g x pd q h ∙ iq)
+          ∙ ap (λ (j : ℕ). (x + (j - 1)) % 2 ^ 64) (last-single (s .vl) size e (omega (arith, elements-are))) ∙ ap (λ (j : ℕ). (x + j) % 2 ^ 64) same
