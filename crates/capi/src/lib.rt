@@ -8,8 +8,13 @@ ghost use Rattle.image.specs.Reading.{readOf, listAfter};
 ghost use Rattle.image.specs.Writing.{writtenOf, bufferAfter};
 ghost use Rattle.transcript.specs.Transcript.{transcriptOf, afterAll, placedAll};
 ghost use Rattle.capi.specs.Answers.{ranAs, walkedAs, readAs, writtenAs};
+ghost use Rattle.capi.specs.Rows.{decodedReply, decodedRow, encodedReply, encodedWord};
 use machine::Machine;
 use registers::State;
+use words::Decoded;
+use words::Encoded;
+
+mod rows;
 
 #[repr(C)]
 pub struct Ran {
@@ -125,4 +130,36 @@ pub extern "C" fn plokamyr_text(image: &[u8], text: &mut [u8]) -> usize
 {
     let mut words = [0u32; 4096];
     transcript::transcript(image, &mut words, text)
+}
+
+// The instruction that a word is, as a row.
+#[no_mangle]
+pub extern "C" fn plokamyr_decode(word: u32, row: &mut [u8; 9]) -> u32
+    ensures { λ r. ⌜ r ≡ decodedReply word ⌝ }
+    ensures { λ _. ⌜ now (row .exit) ≡ decodedRow word (now (row .entry)) ⌝ }
+{
+    let decoded = words::decode(word);
+    match decoded {
+        Decoded::Ours(i) => {
+            *row = rows::row_of(i);
+            0
+        }
+        Decoded::Refused(reply) => reply.number() as u32,
+    }
+}
+
+// A row's instruction, as a word.
+#[no_mangle]
+pub extern "C" fn plokamyr_encode(row: &[u8; 9], word: &mut u32) -> u32
+    ensures { λ r. ⌜ r ≡ encodedReply (now (row .entry)) ⌝ }
+    ensures { λ _. ⌜ now (word .exit) ≡ encodedWord (now (row .entry)) (now (word .entry)) ⌝ }
+{
+    let encoded = rows::encoded(*row);
+    match encoded {
+        Encoded::Word(w) => {
+            *word = w;
+            0
+        }
+        Encoded::Refused(reply) => reply.number() as u32,
+    }
 }

@@ -12,7 +12,7 @@ use Rattle.bits.specs.declared.Size.the-variants as Sz
 use Rattle.bits.specs.Choice.{pick}
 use Rattle.bits.specs.Search.{count, firstFrom, afterLast}
 use Rattle.bits.specs.Size.{shift}
-use Rattle.bits.proofs.Searches.{count-cong, count-le, first-found, first-end}
+use Rattle.bits.proofs.Searches.{count-cong, count-le, first-found, last-le}
 use Rattle.predicates.specs.declared.Predicate.{Predicate}
 use Rattle.predicates.specs.Predicate.{bitAt, pack, allFalse, active, spread, elements, liveOf}
 use Rattle.predicates.proofs.ElementBits.{in-bits}
@@ -63,17 +63,17 @@ module _ (vl : ℕ) (g dn m : Predicate) (under : m ≡ pack (λ b. bitAt g b &&
 
 -- ---- PNEXT's element, found or not; its flags are PredTest's
 
-module _ (size : Size) (v dn l m : Predicate) (vl e n : ℕ) (is-live : l ≡ liveOf vl size) (under : m ≡ pack (λ b. bitAt dn b && bitAt l b))
-    (searched : e ≡ firstFrom (active (shift size) v) ((afterLast (bitAt m) 256 + (2 ^ shift size - 1)) / 2 ^ shift size) n) (elements-are : n ≡ elements vl size) where
-  pub next-is : e ≡ nextElement size v dn vl
-  next-is =
-      searched ∙ ap₂ (λ (x y : ℕ). firstFrom (active (shift size) v) x y)
-      (last-live vl size dn m (under ∙ ap (λ (q : Predicate). pack (λ b. bitAt dn b && bitAt q b)) is-live)) elements-are
+pub next-is : (size : Size) (v dn l m : Predicate) (vl e n : ℕ) → l ≡ liveOf vl size → m ≡ pack (λ b. bitAt dn b && bitAt l b)
+    → e ≡ firstFrom (active (shift size) v) ((afterLast (bitAt m) 256 + (2 ^ shift size - 1)) / 2 ^ shift size) n → n ≡ elements vl size → e ≡ nextElement size v dn vl
+next-is size v dn l m vl e n live under searched elements-are =
+    searched ∙ ap₂ (λ (x y : ℕ). firstFrom (active (shift size) v) x y)
+    (last-live vl size dn m (under ∙ ap (λ (q : Predicate). pack (λ b. bitAt dn b && bitAt q b)) live)) elements-are
 
+module _ (size : Size) (v dn : Predicate) (vl e n : ℕ) (found-is : e ≡ nextElement size v dn vl) (elements-are : n ≡ elements vl size) where
   pub next-none : n ≤ e → allFalse ≡ nextOf size v dn vl
   next-none h =
       sym (ap (λ (t : Bool). pick t (pack (spread (shift size) (λ i. eqb i (nextElement size v dn vl)))) allFalse)
-      (le-ltb (nextElement size v dn vl) (elements vl size) (omega (arith, next-is))))
+      (le-ltb (nextElement size v dn vl) (elements vl size) (omega (arith, found-is))))
 
   pub next-none-flags : n ≤ e → record { n = false; z = true; c = true; v = false } ≡ predTest (active (shift size) v) (active (shift size) (nextOf size v dn vl)) (elements vl size)
   unfolding active
@@ -84,32 +84,25 @@ module _ (size : Size) (v dn l m : Predicate) (vl e n : ℕ) (is-live : l ≡ li
 
   pub next-found : e < n → pack (spread (shift size) (λ i. eqb i e)) ≡ nextOf size v dn vl
   next-found h =
-      ap (λ (x : ℕ). pack (spread (shift size) (λ i. eqb i x))) next-is
+      ap (λ (x : ℕ). pack (spread (shift size) (λ i. eqb i x))) found-is
       ∙ sym (ap (λ (t : Bool). pick t (pack (spread (shift size) (λ i. eqb i (nextElement size v dn vl)))) allFalse)
-      (lt-ltb (nextElement size v dn vl) (elements vl size) (omega (arith, next-is))))
+      (lt-ltb (nextElement size v dn vl) (elements vl size) (omega (arith, found-is))))
 
   -- the element that is found is active
   is-hit : e < n → active (shift size) v e ≡ true
   is-hit h =
-      ap (active (shift size) v) searched
-      ∙ first-found (active (shift size) v) _ n (omega (arith, first-from)) .hit (omega (arith, searched))
-    where
-      from : ℕ
-      from = (afterLast (bitAt m) 256 + (2 ^ shift size - 1)) / 2 ^ shift size
+      ap (active (shift size) v) found-is
+      ∙ first-found (active (shift size) v) _ (elements vl size) (last-le (active (shift size) dn) (elements vl size)) .hit (omega (arith, found-is, elements-are))
 
-      first-from : from ≤ n
-      first-from = elim (decLt n from) [ yes k ↦ absurd (omega (arith, searched ∙ first-end (active (shift size) v) from n (omega arith))) | no k ↦ omega arith ]
-
-  pub next-found-flags : e < n → (w : Predicate) → w ≡ pack (λ b. bitAt v b && bitAt l b) → (b : ℕ) → b ≡ e * 2 ^ shift size
+  pub next-found-flags : e < n → (w : Predicate) → w ≡ pack (λ b. bitAt v b && bitAt (liveOf vl size) b) → (b : ℕ) → b ≡ e * 2 ^ shift size
       → record { n = eqb (firstFrom (bitAt w) 0 256) b; z = false; c = not (eqb (afterLast (bitAt w) 256) (b + 1)); v = false }
       ≡ predTest (active (shift size) v) (active (shift size) (nextOf size v dn vl)) (elements vl size)
   next-found-flags h w masked b at =
       let here : e < elements vl size = omega (arith, elements-are) in
-      let u = masked ∙ ap (λ (q : Predicate). pack (λ i. bitAt v i && bitAt q i)) is-live in
       let below : b < 256 = omega (arith, at, in-bits (shift size) (elements vl size) e here (elements-fit vl size)) in
-      only-tests (bitAt w) (nextOf size v dn vl) b below (ap (bitAt w) at ∙ active-live vl size v w u e here (is-hit h))
+      only-tests (bitAt w) (nextOf size v dn vl) b below (ap (bitAt w) at ∙ active-live vl size v w masked e here (is-hit h))
       (sym (next-found h) ∙ sym (only-element (shift size) e) ∙ ap (λ (x : ℕ). pack (λ i. eqb i x)) (sym at))
-      ∙ test-live vl size v w u (nextOf size v dn vl)
+      ∙ test-live vl size v w masked (nextOf size v dn vl)
 
 -- ---- INCP and DECP
 

@@ -15,7 +15,7 @@ use Rattle.predicates.specs.declared.Predicate.{Predicate}
 use Rattle.predicates.specs.PredTest.{predTest, nzcv, flagsOf}
 use Rattle.predicates.specs.Predicate.{bitAt, pack, allFalse, active, spread, spanOf, elements, liveOf}
 use Rattle.predicates.proofs.Flagging.{flags-back}
-use Rattle.predicates.proofs.Live.{count-live}
+use Rattle.predicates.proofs.Live.{count-live, last-live}
 use Rattle.registers.specs.declared.State.{State}
 use Rattle.registers.specs.State.{readX, readP, withX, withP, withFlags}
 use Rattle.words.specs.declared.Condition.the-variants.{Less}
@@ -24,12 +24,58 @@ use Rattle.words.specs.declared.Instruction.the-variants.{While, IncDec, Pnext,
 use Rattle.scalars.specs.Value.{lowOf}
 use Rattle.scalars.specs.While.{comparison, heldOf}
 use Rattle.machine.specs.Step.{executeOf}
-use Rattle.instructions.specs.Instructions.{nextOf}
+use Rattle.instructions.specs.Instructions.{nextElement, nextOf}
 use Rattle.instructions.proofs.Searched.{next-none, next-none-flags, next-found, next-found-flags}
 use Rattle.instructions.proofs.Whiles.{spanFlags}
+use Rattle.walk.specs.declared.Phase.{Phase}
+use Rattle.walk.specs.declared.Phase.the-variants.{Clear, Select, Advance, Add}
 use Rattle.walk.specs.Walk.{Within, positionAt, positionOf}
 use Rattle.walk.proofs.Executed.{executes-pfalse, executes-held, executes-pnext, executes-incp}
 use Rattle.walk.proofs.Lanes.{base, sized, get-xn, get-xm, get-pk, get-pd, put-pk, put-pd, put-xn, last-single}
+
+-- what is known of a round's lanes and of the cursor: the lowest bit of the lanes, the end of their bits, and the element from which PNEXT searches
+pub record Measured (vl : ℕ) (size : Size) (pd pk : Predicate) (low end from : ℕ) : Type 0 where
+  pub low-is : low ≡ firstFrom (bitAt (pack (λ b. bitAt pd b && bitAt (liveOf vl size) b))) 0 256
+  pub end-is : end ≡ afterLast (bitAt (pack (λ b. bitAt pd b && bitAt (liveOf vl size) b))) 256
+  pub from-is : from ≡ afterLast (active (shift size) pk) (elements vl size)
+
+pub measures : (vl : ℕ) (size : Size) (pd pk v u w : Predicate) (low end from : ℕ) → v ≡ liveOf vl size → u ≡ pack (λ b. bitAt pd b && bitAt v b) → low ≡ firstFrom (bitAt u) 0 256
+    → end ≡ afterLast (bitAt u) 256 → w ≡ pack (λ b. bitAt pk b && bitAt v b) → from ≡ (afterLast (bitAt w) 256 + (2 ^ shift size - 1)) / 2 ^ shift size → Measured vl size pd pk low end from
+measures vl size pd pk v u w low end from live iu il ie iw is =
+    let under : (p q : Predicate) → p ≡ pack (λ b. bitAt q b && bitAt v b) → p ≡ pack (λ b. bitAt q b && bitAt (liveOf vl size) b) =
+    λ p q e. e ∙ ap (λ (r : Predicate). pack (λ b. bitAt q b && bitAt r b)) live in
+    record {
+      low-is = il ∙ ap (λ (p : Predicate). firstFrom (bitAt p) 0 256) (under u pd iu);
+      end-is = ie ∙ ap (λ (p : Predicate). afterLast (bitAt p) 256) (under u pd iu);
+      from-is = is ∙ last-live vl size pk w (under w pk iw);
+    }
+
+pub measured-as : {vl : ℕ} {size : Size} {pd pd′ pk pk′ : Predicate} {low low′ end end′ from from′ : ℕ} → pd′ ≡ pd → pk′ ≡ pk → low′ ≡ low → end′ ≡ end → from′ ≡ from
+    → Measured vl size pd pk low end from → Measured vl size pd′ pk′ low′ end′ from′
+measured-as {vl = vl} {size = size} ed ek el ee ef known = record {
+  low-is = el ∙ known .low-is ∙ ap (λ (p : Predicate). firstFrom (bitAt (pack (λ b. bitAt p b && bitAt (liveOf vl size) b))) 0 256) (sym ed);
+  end-is = ee ∙ known .end-is ∙ ap (λ (p : Predicate). afterLast (bitAt (pack (λ b. bitAt p b && bitAt (liveOf vl size) b))) 256) (sym ed);
+  from-is = ef ∙ known .from-is ∙ ap (λ (p : Predicate). afterLast (active (shift size) p) (elements vl size)) (sym ek);
+}
+
+-- the other phases are not PNEXT's
+number : Phase → ℕ
+number Clear = 0
+number Select = 1
+number Advance = 2
+number Add = 3
+
+pub clear-not : Clear ≡ Advance → ⊥
+unfolding number
+clear-not e = omega (arith, ap number e)
+
+pub select-not : Select ≡ Advance → ⊥
+unfolding number
+select-not e = omega (arith, ap number e)
+
+pub add-not : Add ≡ Advance → ⊥
+unfolding number
+add-not e = omega (arith, ap number e)
 
 pub z-flag : (s : State) (n d k x : ℕ) (pd pk : Predicate) (f : Flags) → base s n d k x pd pk f .flags .z ≡ f .z
 unfolding withFlags
@@ -71,10 +117,9 @@ module _ (size : Size) (n m d k : ℕ) (s : State) (l : List ℕ) (g : Within si
         sym (executes-incp here (sized size n m d k s l g x pd pk f) size n d y (sym all) ∙ put-xn size n m d k s l g x pd pk f y)
 
     -- PNEXT, by what its search found
-    module _ (v w : Predicate) (e i from : ℕ) (live : v ≡ liveOf (s .vl) size) (under : w ≡ pack (λ b. bitAt pk b && bitAt v b))
-        (from-is : from ≡ (afterLast (bitAt w) 256 + (2 ^ shift size - 1)) / 2 ^ shift size) (search-is : e ≡ firstFrom (active (shift size) pd) from i) (elements-are : i ≡ elements (s .vl) size) where
-      searched : e ≡ firstFrom (active (shift size) pd) ((afterLast (bitAt w) 256 + (2 ^ shift size - 1)) / 2 ^ shift size) i
-      searched = search-is ∙ ap (λ (j : ℕ). firstFrom (active (shift size) pd) j i) from-is
+    module _ (low end from e i : ℕ) (known : Measured (s .vl) size pd pk low end from) (search-is : e ≡ firstFrom (active (shift size) pd) from i) (elements-are : i ≡ elements (s .vl) size) where
+      found-is : e ≡ nextElement size pd pk (s .vl)
+      found-is = search-is ∙ ap₂ (λ (a b : ℕ). firstFrom (active (shift size) pd) a b) (known .from-is) elements-are
 
       abbrev next : Predicate
       next = nextOf size pd pk (s .vl)
@@ -85,23 +130,14 @@ module _ (size : Size) (n m d k : ℕ) (s : State) (l : List ℕ) (g : Within si
           ap₂ (λ (p : Predicate) (y : Flags). base s n d k x pd p y) iq ih
           ∙ sym (executes-pnext here (sized size n m d k s l g x pd pk f) size d k pd pk next (get-pd size n m d k s l g x pd pk f) (get-pk size n m d k s l g x pd pk f) refl ∙ put-pk size n m d k s l g x pd pk f _ _)
 
-      pub advances-past : i ≤ e → (q : Predicate) (c : ℕ) (h : Flags) → q ≡ allFalse → c ≡ nzcv (record { n = false; z = true; c = true; v = false }) → h ≡ flagsOf c
-          → (base s n d k x pd q h ≡ executeOf here (Pnext size d k)) × (h .z ≡ true)
-      advances-past past q c h iq ic ih =
-          let flags = ih ∙ ap flagsOf ic ∙ flags-back _ in (
-            advances q h (iq ∙ next-none size pd pk v w (s .vl) e i live under searched elements-are past) (flags ∙ next-none-flags size pd pk v w (s .vl) e i live under searched elements-are past),
-            ap (λ (y : Flags). y .z) flags,
-          )
+      pub advances-past : i ≤ e → (q : Predicate) → q ≡ allFalse → base s n d k x pd q (record { n = false; z = true; c = true; v = false }) ≡ executeOf here (Pnext size d k)
+      advances-past past q iq = advances q _ (iq ∙ next-none size pd pk (s .vl) e i found-is elements-are past) (next-none-flags size pd pk (s .vl) e i found-is elements-are past)
 
-      pub advances-to : e < i → (q u : Predicate) (b c : ℕ) (h : Flags) → q ≡ pack (spread (shift size) (λ j. eqb j e)) → u ≡ pack (λ j. bitAt pd j && bitAt v j) → b ≡ e * 2 ^ shift size
-          → c ≡ nzcv (record { n = eqb (firstFrom (bitAt u) 0 256) b; z = false; c = not (eqb (afterLast (bitAt u) 256) (b + 1)); v = false }) → h ≡ flagsOf c
-          → (base s n d k x pd q h ≡ executeOf here (Pnext size d k)) × (h .z ≡ false)
-      advances-to found q u b c h iq masked at ic ih =
-          let flags = ih ∙ ap flagsOf ic ∙ flags-back _ in (
-            advances q h (iq ∙ next-found size pd pk v w (s .vl) e i live under searched elements-are found)
-                (flags ∙ next-found-flags size pd pk v w (s .vl) e i live under searched elements-are found u masked b at),
-            ap (λ (y : Flags). y .z) flags,
-          )
+      pub advances-to : e < i → (q : Predicate) (b : ℕ) → q ≡ pack (spread (shift size) (λ j. eqb j e)) → b ≡ e * 2 ^ shift size
+          → base s n d k x pd q (record { n = eqb low b; z = false; c = not (eqb end (b + 1)); v = false }) ≡ executeOf here (Pnext size d k)
+      advances-to found q b iq at =
+          advances q _ (iq ∙ next-found size pd pk (s .vl) e i found-is elements-are found)
+          ((λ j. record { n = eqb (known .low-is j) b; z = false; c = not (eqb (known .end-is j) (b + 1)); v = false }) ∙ next-found-flags size pd pk (s .vl) e i found-is elements-are found _ refl b at)
 
       pub visits : e < i → (q : Predicate) (h : Flags) → q ≡ pack (spread (shift size) (λ j. eqb j e)) → positionOf size n k (base s n d k x pd q h) ≡ (x + e) % 2 ^ 64
       unfolding positionAt withX withP withFlags
@@ -109,3 +145,12 @@ module _ (size : Size) (n m d k : ℕ) (s : State) (l : List ℕ) (g : Within si
           let same : suc e - 1 ≡ e = omega arith in
           ap₂ (λ (a : ℕ) (p : Predicate). (a + (afterLast (active (shift size) p) (elements (s .vl) size) - 1)) % 2 ^ 64) (get-xn size n m d k s l g x pd q h) (get-pk size n m d k s l g x pd q h ∙ iq)
           ∙ ap (λ (j : ℕ). (x + (j - 1)) % 2 ^ 64) (last-single (s .vl) size e (omega (arith, elements-are))) ∙ ap (λ (j : ℕ). (x + j) % 2 ^ 64) same
+
+      pub measured-on : e < i → (q : Predicate) → q ≡ pack (spread (shift size) (λ j. eqb j e)) → Measured (s .vl) size pd q low end (e + 1)
+      measured-on found q iq =
+          let same : e + 1 ≡ suc e = omega arith in
+          record {
+            low-is = known .low-is;
+            end-is = known .end-is;
+            from-is = same ∙ sym (last-single (s .vl) size e (omega (arith, elements-are))) ∙ ap (λ (p : Predicate). afterLast (active (shift size) p) (elements (s .vl) size)) (sym iq);
+          }

@@ -122,6 +122,9 @@ fn plain(
     let mut lanes = start.read_p(d as u64);
     let mut cursor = start.read_p(k as u64);
     let mut flags = start.flags;
+    let mut low: u64 = 0;
+    let mut end: u64 = 0;
+    let mut next: u64 = 0;
     let mut phase = Phase::Clear;
     let mut ended = false;
     let mut used: usize = 0;
@@ -137,19 +140,35 @@ fn plain(
                 lanes = Predicate::first(size, held);
                 flags = Flags::of(instructions::while_flags(true, held, elements));
                 ended = held == 0;
+                let mask = lanes.and(live);
+                low = mask.lowest();
+                end = mask.after_highest();
+                next = cursor.and(live).end_element(size);
                 phase = Phase::Advance;
             }
             Phase::Advance => {
-                let e = lanes.next_active(size, cursor.and(live).end_element(size), elements);
+                let e = lanes.next_active(size, next, elements);
                 if elements <= e {
                     cursor = Predicate::none();
-                    flags = Flags::of(predicates::nzcv(false, true, true));
+                    flags = Flags {
+                        n: false,
+                        z: true,
+                        c: true,
+                        v: false,
+                    };
                     phase = Phase::Add;
                 } else {
+                    let b = e << size.shift();
                     cursor = Predicate::only_element(size, e);
-                    flags = Flags::of(predicates::test_only(lanes.and(live), e << size.shift()));
+                    flags = Flags {
+                        n: low == b,
+                        z: false,
+                        c: end != b + 1,
+                        v: false,
+                    };
                     list[used] = std::num::wrapping_add_u64(x, e);
                     used += 1;
+                    next = e + 1;
                 }
             }
             Phase::Add => {

@@ -1,17 +1,19 @@
 -- `pnext` meets its contract. Assumes nothing.
+use mathlib.Core.Bool.{_&&_}
 use mathlib.Core.Path.{_≡_, ap, _∙_}
-use Prim.Native.Nat.{ℕ, _+_, _-_, _*_, _/_, _%_, _^_}
+use Prim.Native.Nat.{ℕ, _*_, _%_, _^_}
 use native.Mathlib.Omega.{arith}
 use borrow.Author.Needs.{needs}
-use Rattle.bits.specs.Search.{firstFrom, afterLast}
+use Rattle.bits.specs.Search.{firstFrom}
 use Rattle.bits.specs.Size.{shift}
 use Rattle.bits.proofs.Sizes.{shift-lt, shifted}
+use Rattle.predicates.specs.declared.Predicate.{Predicate}
 use Rattle.predicates.specs.PredTest.{nzcv}
-use Rattle.predicates.specs.Predicate.{bitAt, active}
+use Rattle.predicates.specs.Predicate.{bitAt, pack, active}
 use Rattle.predicates.proofs.Live.{elements-le}
-use Rattle.instructions.specs.Instructions.{pnext}
+use Rattle.instructions.specs.Instructions.{nextElement, pnext}
 use Rattle.instructions.proofs.Effects.{one-is}
-use Rattle.instructions.proofs.Searched.{next-none, next-none-flags, next-found, next-found-flags}
+use Rattle.instructions.proofs.Searched.{next-is, next-none, next-none-flags, next-found, next-found-flags}
 use Rattle.instructions.proofs.search.pnext.Statement.{statement}
 use Rattle.instructions.proofs.search.pnext.Tie as tie
 
@@ -40,24 +42,22 @@ writes-p-requires : tie.Need-writes-p-requires
 writes-p-requires c κs = search needs
 
 -- what the search has found
-searched : (c : tie.After-next-active) → let k = shift (c .before .before .before .before .before .args .size) in
-    c .next-active .result ≡ firstFrom (active k (c .before .before .before .before .before .args .v))
-    ((afterLast (bitAt (c .before .before .and .result)) 256 + (2 ^ k - 1)) / 2 ^ k) (c .before .before .before .before .elements .result)
-searched c =
+found : (c : tie.After-next-active) → let a = c .before .before .before .before .before .args in c .next-active .result ≡ nextElement (a .size) (a .v) (a .dn) (a .vl)
+found c =
     let a = c .before .before .before .before .before .args in
-    c .next-active .ensures ∙ ap (λ (x : ℕ). firstFrom (active (shift (a .size)) (a .v)) x (c .before .before .before .before .elements .result)) (c .before .end-element .ensures)
+    next-is (a .size) (a .v) (a .dn) _ _ (a .vl) _ _ (c .before .before .before .live .ensures) (c .before .before .and .ensures)
+    (c .next-active .ensures ∙ ap (λ (x : ℕ). firstFrom (active (shift (a .size)) (a .v)) x (c .before .before .before .before .elements .result)) (c .before .end-element .ensures))
+    (c .before .before .before .before .elements .ensures)
 
 returns : tie.Need-returns
 unfolding pnext
 returns c =
     let s = c .before .before .before .before in
     let a = s .before .before .before .before .before .args in
-    let live = s .before .before .before .live .ensures in
-    let under = s .before .before .and .ensures in
     let n = s .before .before .before .before .elements .ensures in
     one-is _ _ _ _ _ _ (c .writes-p .ensures)
-    (c .before .before .none .ensures ∙ next-none (a .size) (a .v) (a .dn) _ _ (a .vl) _ _ live under (searched s) n (c .before .before .before .if1 .taken))
-    (c .before .nzcv .ensures ∙ ap nzcv (next-none-flags (a .size) (a .v) (a .dn) _ _ (a .vl) _ _ live under (searched s) n (c .before .before .before .if1 .taken)))
+    (c .before .before .none .ensures ∙ next-none (a .size) (a .v) (a .dn) (a .vl) _ _ (found s) n (c .before .before .before .if1 .taken))
+    (c .before .nzcv .ensures ∙ ap nzcv (next-none-flags (a .size) (a .v) (a .dn) (a .vl) _ _ (found s) n (c .before .before .before .if1 .taken)))
 
 and-requires-2 : tie.Need-and-requires-2
 and-requires-2 c κs = search needs
@@ -83,16 +83,15 @@ returns-2 c =
     let s = c .before .before .before .before .before .before in
     let a = s .before .before .before .before .before .args in
     let e = s .next-active .result in
-    let live = s .before .before .before .live .ensures in
-    let under = s .before .before .and .ensures in
     let n = s .before .before .before .before .elements .ensures in
-    let found = c .before .before .before .before .before .if1 .left in
+    let left = c .before .before .before .before .before .if1 .left in
     let at : (e * 2 ^ c .before .before .before .shift .result) % 2 ^ 64 ≡ e * 2 ^ shift (a .size) =
     ap (λ (x : ℕ). (e * 2 ^ x) % 2 ^ 64) (c .before .before .before .shift .ensures) ∙ shifted e (shift (a .size)) (omega (arith, n, elements-le (a .vl) (a .size))) (shift-lt (a .size)) in
+    let masked = c .before .before .before .before .and2 .ensures ∙ ap (λ (q : Predicate). pack (λ b. bitAt (a .v) b && bitAt q b)) (s .before .before .before .live .ensures) in
     one-is _ _ _ _ _ _ (c .writes-p2 .ensures)
-    (c .before .only-element .ensures ∙ next-found (a .size) (a .v) (a .dn) _ _ (a .vl) _ _ live under (searched s) n (omega arith))
+    (c .before .only-element .ensures ∙ next-found (a .size) (a .v) (a .dn) (a .vl) _ _ (found s) n (omega arith))
     (c .before .before .test-only .ensures
-    ∙ ap nzcv (next-found-flags (a .size) (a .v) (a .dn) _ _ (a .vl) _ _ live under (searched s) n (omega arith) _ (c .before .before .before .before .and2 .ensures) _ at))
+    ∙ ap nzcv (next-found-flags (a .size) (a .v) (a .dn) (a .vl) _ _ (found s) n (omega arith) _ masked _ at))
 
 pub pnext-spec : {M : Type 1} → statement M
 pnext-spec =
