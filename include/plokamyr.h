@@ -1,9 +1,11 @@
 /* Plokamyr: the predicate part of an Arm SVE interpreter, for C and C++.
  *
  * Every call is answered: nothing is left to the caller to check but what C cannot say. What the caller owes:
- *   - a pointer is valid for its count of elements (null will do where the count is 0), and aligned as its type;
+ *   - a pointer with a count is valid for that many elements (null will do where the count is 0), and aligned as its type;
+ *   - `state`, `row` and `word` are valid pointers, never null;
  *   - the buffers of one call do not overlap;
- *   - a bool is 0 or 1.
+ *   - a bool is 0 or 1;
+ *   - there are 32 KB of stack.
  * A refusal carries its number and leaves every state and buffer as it was. PLOKAMYR_BUDGET_SPENT alone keeps the work done so far.
  * No function keeps a pointer, allocates, or has state of its own: calls from several threads do not meet.
  */
@@ -18,6 +20,7 @@
 extern "C" {
 #endif
 
+/* Later versions may add replies: keep a default. */
 enum plokamyr_reply {
     PLOKAMYR_DONE = 0,
     PLOKAMYR_UNKNOWN_WORD = 1,        /* the word is no instruction of ours */
@@ -89,9 +92,10 @@ struct plokamyr_walked plokamyr_walk(struct plokamyr_state state, uint32_t size,
 
 /* ---- images ---- */
 
-#define PLOKAMYR_WORDS_MAX 4096  /* the words of an image */
-#define PLOKAMYR_IMAGE_MAX 17171 /* the bytes of an image */
-#define PLOKAMYR_TEXT_MAX 86026  /* the bytes of an image's text */
+/* The most words that an image has, its most bytes, and room for the text of any image. */
+#define PLOKAMYR_WORDS_MAX 4096
+#define PLOKAMYR_IMAGE_MAX 17171
+#define PLOKAMYR_TEXT_MAX 86026
 
 /* count words stand in the lent list. For a refusal: 0, and a state of vl 128 with all else zero. */
 struct plokamyr_reading {
@@ -113,12 +117,14 @@ struct plokamyr_written {
 struct plokamyr_written plokamyr_write(struct plokamyr_state state, const uint32_t *words, size_t count, uint8_t *image, size_t room);
 
 /* Writes what the program prints for an image: a line for each word stepped and `end`, or `image` and the reply alone. Answers how many bytes were written.
- * There is no 0 after them. A line that has no room is left out whole; PLOKAMYR_TEXT_MAX bytes are room for any image. */
+ * There is no 0 after them, and other bytes stay. A line that has no room is left out whole, and a later, shorter one may still be written;
+ * PLOKAMYR_TEXT_MAX bytes are room for any image. */
 size_t plokamyr_text(const uint8_t *image, size_t length, uint8_t *text, size_t room);
 
 /* ---- words ---- */
 
-/* An instruction as numbers: its form, then the fields of the form from the highest bit down, then zeros. */
+/* An instruction as numbers: its form, then the fields of the form from the highest bit down, then zeros.
+ * The counters and the pair ask level 3, WHILE_ONE asks 1 if lt is 1 and else 2, all others ask 1. */
 enum plokamyr_form {
     PLOKAMYR_WHILE_ONE = 0,     /* size, Rm, sf, U, lt, Rn, eq, Pd */
     PLOKAMYR_WHILE_PAIR = 1,    /* size, Rm, U, lt, Rn, Pd, eq: writes P(2 Pd) and P(2 Pd + 1) */
@@ -140,6 +146,13 @@ enum plokamyr_reply plokamyr_decode(uint32_t word, uint8_t row[PLOKAMYR_ROW]);
 
 /* Writes an instruction as a word. Refusal: 9, for a form or a field past its range, or a number other than 0 after the form's fields. */
 enum plokamyr_reply plokamyr_encode(const uint8_t row[PLOKAMYR_ROW], uint32_t *word);
+
+/* The library is compiled for these sizes. */
+#if defined(__cplusplus)
+static_assert(sizeof(enum plokamyr_reply) == 4 && sizeof(struct plokamyr_state) == 776, "not the library's layout");
+#elif defined(__STDC_VERSION__) && __STDC_VERSION__ >= 201112L
+_Static_assert(sizeof(enum plokamyr_reply) == 4 && sizeof(struct plokamyr_state) == 776, "not the library's layout");
+#endif
 
 #ifdef __cplusplus
 }

@@ -1,0 +1,104 @@
+//! Nanoseconds per instruction of the library, beside the second program and QEMU.
+//! All are timed in turn, round after round; each time printed is the best of its rounds.
+
+mod library;
+mod qemu;
+mod second;
+mod table;
+mod timing;
+mod words;
+
+use library::walk_instructions;
+use qemu::Qemu;
+use table::{Table, LENGTHS};
+
+const WORDS: usize = 4096;
+const POSITIONS: u64 = 2_000_000;
+const ROUNDS: usize = 8;
+
+/// What is divided by what, under the table of times.
+const RATIOS: [(&str, &str); 6] = [
+    ("step, second program", "step"),
+    ("run, second program", "run"),
+    ("run, eight forms, qemu", "run, eight forms"),
+    ("walk, second program", "walk"),
+    ("walk, qemu", "walk"),
+    ("walk, qemu, no positions", "walk"),
+];
+
+const NOTES: &str = "
+step, run: 4,096 words, the eleven forms in turn, their fields drawn at random, at level 3. The library's state after them
+was compared with the second program's. Eight forms: those of levels 1 and 2.
+walk: 2,000,000 byte positions (the second program: 20,000). Instructions are the walk's own, D + 3R + 2.";
+
+const QEMU_NOTES: &str = "
+run, qemu: the words as straight code. The library's state after them was compared with QEMU's.
+walk, qemu: finds each position by BRKB and CNTP and stores it, as the walk does. No positions: PFALSE, WHILELO, PNEXT and
+INCP alone, so less than the walk does. Both have branches besides, which are not counted as instructions.";
+
+struct Bench {
+    all: Vec<u32>,
+    base: Vec<u32>,
+    list: Vec<u64>,
+    qemu: Option<Qemu>,
+    table: Table,
+}
+
+fn main() {
+    let base = words::base_forms(WORDS);
+    let qemu = Qemu::build(&base).map_err(|missing| println!("Without QEMU: {missing}.\n")).ok();
+    let all = words::all_forms(WORDS);
+    let list = vec![1; POSITIONS as usize];
+    let mut bench = Bench { all, base, list, qemu, table: Table::default() };
+    for _ in 0..ROUNDS {
+        for (column, vl) in LENGTHS.into_iter().enumerate() {
+            bench.words_round(column, vl);
+            bench.base_words_round(column, vl);
+            bench.walk_round(column, vl);
+        }
+    }
+    bench.table.print(&RATIOS);
+    println!("{NOTES}");
+    println!("Each time is the best of {ROUNDS} rounds, in which all are timed in turn.");
+    if bench.qemu.is_some() {
+        println!("{QEMU_NOTES}");
+        println!("{}", qemu::version().unwrap_or_default());
+    }
+}
+
+impl Bench {
+    /// Times the words of all forms once at a length.
+    fn words_round(&mut self, column: usize, vl: u64) {
+        let start = words::start(vl);
+        let Bench { table, all, .. } = self;
+        table.take("step", column, library::step(&start, all));
+        table.take("step, second program", column, second::step(&start, all));
+        table.take("run", column, library::run(&start, all));
+        table.take("run, second program", column, second::run(&start, all));
+    }
+
+    /// Times the words that QEMU executes too.
+    fn base_words_round(&mut self, column: usize, vl: u64) {
+        let start = words::start(vl);
+        let Bench { table, base, .. } = self;
+        table.take("run, eight forms", column, library::run(&start, base));
+        if let Some(qemu) = &self.qemu {
+            let (time, state) = qemu.run(vl);
+            assert_eq!(state, plokamyr::run(&start, base).state, "QEMU's state after the run, and ours");
+            table.take("run, eight forms, qemu", column, time / WORDS as f64);
+        }
+    }
+
+    fn walk_round(&mut self, column: usize, vl: u64) {
+        let Bench { table, list, .. } = self;
+        table.take("walk", column, library::walk(vl, list));
+        assert!(list.iter().copied().eq(0..POSITIONS), "the positions of the walk");
+        table.take("walk, second program", column, second::walk(vl));
+        if let Some(qemu) = &self.qemu {
+            let count = walk_instructions(vl, POSITIONS) as f64;
+            let (stored, bare) = qemu.walk(vl, POSITIONS);
+            table.take("walk, qemu", column, stored / count);
+            table.take("walk, qemu, no positions", column, bare / count);
+        }
+    }
+}

@@ -1,0 +1,90 @@
+//! The words that are timed, and the state that they start from.
+
+use plokamyr::State;
+
+/// A number of pseudorandom bits (xorshift): the same words at every run.
+pub struct Dice(u64);
+
+impl Dice {
+    pub fn new(seed: u64) -> Dice {
+        Dice(seed)
+    }
+
+    pub fn below(&mut self, bound: u64) -> u64 {
+        self.0 ^= self.0 << 13;
+        self.0 ^= self.0 >> 7;
+        self.0 ^= self.0 << 17;
+        (self.0 >> 16) % bound
+    }
+}
+
+/// A form: the bits that never change, then the lowest bit of each field, by kind.
+struct Shape {
+    fixed: u32,
+    bits: &'static [u32],
+    predicates: &'static [u32],
+    registers: &'static [u32],
+}
+
+const fn shape(fixed: u32, bits: &'static [u32], predicates: &'static [u32], registers: &'static [u32]) -> Shape {
+    Shape { fixed, bits, predicates, registers }
+}
+
+/// The forms of levels 1 and 2, in the order of `mix`. The two bits of a size count as two fields of a bit.
+const BASE: [Shape; 8] = [
+    shape(0x2520_0000, &[23, 22, 12, 11, 10, 4], &[0], &[16, 5]), // WHILE, one predicate
+    shape(0x2519_C400, &[23, 22], &[5, 0], &[]),                  // PNEXT
+    shape(0x252C_8800, &[23, 22, 16], &[5], &[0]),                // INCP, DECP
+    shape(0x2520_8000, &[23, 22], &[10, 5], &[0]),                // CNTP
+    shape(0x2558_C000, &[], &[5, 0], &[]),                        // PFIRST
+    shape(0x2528_8800, &[23, 22, 17, 16, 10], &[5], &[0]),        // SQ, UQ INCP, DECP
+    shape(0x2550_C000, &[], &[10, 5], &[]),                       // PTEST
+    shape(0x2518_E400, &[], &[0], &[]),                           // PFALSE
+];
+
+/// Those of level 3, which QEMU 7.2 does not know. A pair's and a counter's target has three bits, each a field here.
+const LATE: [Shape; 3] = [
+    shape(0x2520_5010, &[23, 22, 11, 10, 3, 2, 1, 0], &[], &[16, 5]), // WHILE, pair
+    shape(0x2520_4010, &[23, 22, 13, 11, 10, 3, 2, 1, 0], &[], &[16, 5]), // WHILE, counter
+    shape(0x2520_8200, &[23, 22, 10], &[5], &[0]),                    // CNTP, counter
+];
+
+/// X0 to X27 and 31: under QEMU the rest are the loop's own.
+fn register(dice: &mut Dice) -> u32 {
+    match dice.below(29) as u32 {
+        28 => 31,
+        number => number,
+    }
+}
+
+fn word(shape: &Shape, dice: &mut Dice) -> u32 {
+    let bits = shape.bits.iter().fold(shape.fixed, |word, at| word | (dice.below(2) as u32) << at);
+    let word = shape.predicates.iter().fold(bits, |word, at| word | (dice.below(16) as u32) << at);
+    shape.registers.iter().fold(word, |word, at| word | register(dice) << at)
+}
+
+/// The forms in turn, with all fields drawn: `count` words.
+fn mix(shapes: &[&Shape], count: usize) -> Vec<u32> {
+    let mut dice = Dice::new(0x9E37_79B9_7F4A_7C15);
+    (0..count).map(|i| word(shapes[i % shapes.len()], &mut dice)).collect()
+}
+
+/// Words of all eleven forms.
+pub fn all_forms(count: usize) -> Vec<u32> {
+    mix(&BASE.iter().chain(&LATE).collect::<Vec<_>>(), count)
+}
+
+/// Words of the eight forms that QEMU executes too.
+pub fn base_forms(count: usize) -> Vec<u32> {
+    mix(&BASE.iter().collect::<Vec<_>>(), count)
+}
+
+/// Numbers of 3 to 8 bits in X, so that a WHILE often ends within a vector; the rest is zero.
+pub fn start(vl: u64) -> State {
+    let mut dice = Dice::new(0x2545_F491_4F6C_DD1D);
+    let mut state = State::new(vl, 3);
+    for (i, x) in state.x.iter_mut().take(28).enumerate() {
+        *x = dice.below(8 << (i % 6));
+    }
+    state
+}

@@ -1,0 +1,22 @@
+//! The second program: a plain model of the predicate part of an Arm SVE interpreter.
+//!
+//! Written from document 01 and Arm's pages alone, element by element as the pseudocode goes. It is there to be
+//! compared with, so it must be easy to check by reading: nothing in it is cleverer than the paper's sentence for it.
+#![forbid(unsafe_code)]
+
+mod counter;
+mod execute;
+mod image;
+mod reply;
+mod state;
+mod step;
+mod text;
+mod walk;
+mod words;
+
+pub use image::{read, write, Reading, Written};
+pub use state::{Flags, State};
+pub use step::{run, step, Ran};
+pub use text::{text, text_in};
+pub use walk::{walk, Walked};
+pub use words::{decode, encode, Row};

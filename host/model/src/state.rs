@@ -1,0 +1,109 @@
+//! The register state, which states are legal, and how its registers are read and written.
+
+#[derive(Clone, Copy, Default, PartialEq, Eq, Debug)]
+pub struct Flags {
+    pub n: bool,
+    pub z: bool,
+    pub c: bool,
+    pub v: bool,
+}
+
+/// Any values may stand in it, illegal ones too. Bit b of a predicate is bit b % 64 of its word b / 64.
+#[derive(Clone, PartialEq, Eq, Debug)]
+pub struct State {
+    pub vl: u64,
+    pub level: u8,
+    pub access: bool,
+    pub flags: Flags,
+    pub x: [u64; 31],
+    pub p: [[u64; 4]; 16],
+}
+
+/// The predicate bits that a state has room for; those at or above PL are zero in a legal one.
+const PREDICATE_BITS: usize = 256;
+
+/// How far apart the lowest bits of two neighbouring elements are: esize/8.
+pub fn psize(size: u8) -> usize {
+    match size {
+        0 => 1,
+        1 => 2,
+        2 => 4,
+        3 => 8,
+        _ => unreachable!("a size has two bits"),
+    }
+}
+
+fn bit(predicate: &[u64; 4], b: usize) -> bool {
+    (predicate[b / 64] >> (b % 64)) & 1 == 1
+}
+
+fn set_bit(predicate: &mut [u64; 4], b: usize) {
+    predicate[b / 64] |= 1 << (b % 64);
+}
+
+impl State {
+    /// VL 128 and all else zero.
+    pub fn zero() -> State {
+        State { vl: 128, level: 0, access: false, flags: Flags::default(), x: [0; 31], p: [[0; 4]; 16] }
+    }
+
+    /// Whether reply 4 does not refuse it.
+    pub fn legal(&self) -> bool {
+        matches!(self.vl, 128 | 256 | 512 | 1024 | 2048)
+            && self.level <= 3
+            && self.p.iter().all(|predicate| !(self.pl()..PREDICATE_BITS).any(|b| bit(predicate, b)))
+    }
+
+    /// PL, the bits of a predicate.
+    pub fn pl(&self) -> usize {
+        self.vl as usize / 8
+    }
+
+    /// E, the elements of a vector: VL/esize.
+    pub fn elements(&self, size: u8) -> usize {
+        self.pl() / psize(size)
+    }
+
+    /// "Number 31 reads as zero".
+    pub fn read_x(&self, number: u8) -> u64 {
+        if number == 31 {
+            0
+        } else {
+            self.x[usize::from(number)]
+        }
+    }
+
+    /// "Writes to it vanish".
+    pub fn write_x(&mut self, number: u8, value: u64) {
+        if number != 31 {
+            self.x[usize::from(number)] = value;
+        }
+    }
+
+    /// The elements of a predicate: "element e is true exactly if bit e·esize/8 is 1".
+    pub fn read_p(&self, number: u8, size: u8) -> Vec<bool> {
+        let predicate = &self.p[usize::from(number)];
+        (0..self.elements(size)).map(|e| bit(predicate, e * psize(size))).collect()
+    }
+
+    /// Writes a predicate by its elements; "the element's other bits are zero".
+    pub fn write_p(&mut self, number: u8, size: u8, elements: &[bool]) {
+        let mut predicate = [0; 4];
+        for (e, &active) in elements.iter().enumerate() {
+            if active {
+                set_bit(&mut predicate, e * psize(size));
+            }
+        }
+        self.p[usize::from(number)] = predicate;
+    }
+
+    /// A predicate taken as a counter: its lowest 16 bits.
+    pub fn read_counter(&self, number: u8) -> u16 {
+        self.p[usize::from(number)][0] as u16
+    }
+
+    /// "Higher bits are zero".
+    pub fn write_counter(&mut self, number: u8, counter: u16) {
+        self.p[usize::from(number)] = [u64::from(counter), 0, 0, 0];
+    }
+}

@@ -1,0 +1,46 @@
+//! One word, and words one after the other.
+
+use crate::execute::execute;
+use crate::reply::*;
+use crate::state::State;
+use crate::words::{decode, level};
+
+#[derive(Clone, PartialEq, Eq, Debug)]
+pub struct Ran {
+    pub reply: u8,
+    pub done: usize,
+    pub state: State,
+}
+
+/// Executes a word on the state where it stands. "Step order: 4, 1, 2, 3"; refused, it leaves the state as it was.
+pub fn step(state: &mut State, word: u32) -> u8 {
+    if !state.legal() {
+        return ILLEGAL_STATE;
+    }
+    let Some(row) = decode(word) else {
+        return UNKNOWN_WORD;
+    };
+    if state.level < level(&row) {
+        return LEVEL_TOO_LOW;
+    }
+    if !state.access {
+        return ACCESS_OFF;
+    }
+    execute(state, &row);
+    DONE
+}
+
+/// Steps the words until one is refused. An illegal state is refused even if there are none.
+pub fn run(state: &State, words: &[u32]) -> Ran {
+    let mut state = state.clone();
+    if !state.legal() {
+        return Ran { reply: ILLEGAL_STATE, done: 0, state };
+    }
+    for (done, &word) in words.iter().enumerate() {
+        let reply = step(&mut state, word);
+        if reply != DONE {
+            return Ran { reply, done, state };
+        }
+    }
+    Ran { reply: DONE, done: words.len(), state }
+}

@@ -1,0 +1,362 @@
+//! Document 01's fourteen examples, its program, and the errors that it has seen made.
+
+use model::*;
+
+const B: u8 = 0;
+const H: u8 = 1;
+const S: u8 = 2;
+const D: u8 = 3;
+
+// The conditions, as U, lt, eq.
+const LT: [u8; 3] = [0, 1, 0];
+const LE: [u8; 3] = [0, 1, 1];
+const GT: [u8; 3] = [0, 0, 1];
+const LO: [u8; 3] = [1, 1, 0];
+const LS: [u8; 3] = [1, 1, 1];
+const HS: [u8; 3] = [1, 0, 0];
+const HI: [u8; 3] = [1, 0, 1];
+
+/// VL 128, level 3, access on, all else zero.
+fn ready() -> State {
+    State { vl: 128, level: 3, access: true, flags: Flags::default(), x: [0; 31], p: [[0; 4]; 16] }
+}
+
+fn nzc(n: u8, z: u8, c: u8) -> Flags {
+    Flags { n: n == 1, z: z == 1, c: c == 1, v: false }
+}
+
+fn low(predicate: u64) -> [u64; 4] {
+    [predicate, 0, 0, 0]
+}
+
+fn do_step(state: &mut State, row: &[u8]) {
+    let mut whole = [0; 9];
+    whole[..row.len()].copy_from_slice(row);
+    assert_eq!(step(state, encode(&whole).unwrap()), 0);
+}
+
+/// WHILE P0, X1, X2 with these operands.
+fn while_one(size: u8, sf: u8, [u, lt, eq]: [u8; 3], first: u64, second: u64) -> (u64, Flags) {
+    let mut state = ready();
+    (state.x[1], state.x[2]) = (first, second);
+    do_step(&mut state, &[0, size, 2, sf, u, lt, 1, eq, 0]);
+    assert_eq!((state.x[1], state.x[2]), (first, second));
+    (state.p[0][0], state.flags)
+}
+
+/// WHILE PN8, X1, X2 with these operands, over a group of two vectors.
+fn while_counter(size: u8, [u, lt, eq]: [u8; 3], first: u64, second: u64) -> (u64, Flags) {
+    let mut state = ready();
+    (state.x[1], state.x[2]) = (first, second);
+    do_step(&mut state, &[2, size, 2, 0, u, lt, 1, eq, 0]);
+    (state.p[8][0], state.flags)
+}
+
+/// SQ/UQ INCP/DECP X0 by P0, of bytes.
+fn saturated(d: u8, u: u8, sf: u8, value: u64, mask: u64) -> u64 {
+    let mut state = ready();
+    state.x[0] = value;
+    state.p[0] = low(mask);
+    do_step(&mut state, &[3, B, d, u, sf, 0, 0]);
+    state.x[0]
+}
+
+/// PNEXT P0 over P1, of bytes where size is B.
+fn pnext(state: &mut State, size: u8) -> (u64, Flags) {
+    do_step(state, &[7, size, 1, 0]);
+    (state.p[0][0], state.flags)
+}
+
+/// CNTP X0 of P1 taken as a counter.
+fn cntp_counter(size: u8, vl: u8, counter: u64) -> u64 {
+    let mut state = ready();
+    state.p[1] = low(counter);
+    do_step(&mut state, &[6, size, vl, 1, 0]);
+    state.x[0]
+}
+
+// ---- the fourteen examples ----
+
+#[test]
+fn examples_1_to_6_while() {
+    let max = i64::MAX as u64;
+    assert_eq!(while_one(S, 1, LO, 10, 13), (0x0111, nzc(1, 0, 1)));
+    assert_eq!(while_one(B, 1, LE, max - 1, max), (0xffff, nzc(1, 0, 0)));
+    assert_eq!(while_one(B, 1, LT, max - 1, max), (0x0001, nzc(1, 0, 1)));
+    assert_eq!(while_one(H, 1, HI, 5, 2), (0x5400, nzc(0, 0, 0)));
+    let mut state = ready();
+    (state.x[1], state.x[2]) = (3, 2);
+    do_step(&mut state, &[1, D, 2, 1, 0, 1, 0, 1]);
+    assert_eq!((state.p[0], state.p[1], state.flags), (low(0), low(0x0100), nzc(0, 0, 0)));
+    assert_eq!(while_one(S, 1, HS, 0, 0), (0x1111, nzc(1, 0, 0)));
+}
+
+#[test]
+fn examples_7_to_9_counters() {
+    assert_eq!(while_counter(S, LE, 0, 2), (0x001c, nzc(1, 0, 1)));
+    assert_eq!(while_counter(S, LE, 0, 7), (0x8004, nzc(1, 0, 0)));
+    assert_eq!(while_counter(S, GT, 3, 0), (0x802c, nzc(0, 0, 0)));
+}
+
+#[test]
+fn examples_10_and_11_pnext() {
+    let mut state = ready();
+    state.p[1] = low(0x0024);
+    assert_eq!(pnext(&mut state, B), (0x0004, nzc(1, 0, 1)));
+    assert_eq!(pnext(&mut state, B), (0x0020, nzc(0, 0, 0)));
+    assert_eq!(pnext(&mut state, B), (0x0000, nzc(0, 1, 1)));
+    state.p[1] = low(0x0022);
+    assert_eq!(pnext(&mut state, S), (0x0000, nzc(0, 1, 1)));
+}
+
+#[test]
+fn examples_12_and_13_counts() {
+    assert_eq!(saturated(1, 0, 0, 0xffff_ffff_8000_0001, 0b111), 0xffff_ffff_8000_0000);
+    let mut state = ready();
+    state.x[0] = u64::MAX;
+    state.p[0] = low(0b11);
+    do_step(&mut state, &[4, B, 0, 0, 0]);
+    assert_eq!(state.x[0], 1);
+}
+
+#[test]
+fn example_14_words() {
+    assert_eq!(decode(0x25a2_4438), Some([2, S, 2, 0, 0, 1, 1, 1, 0])); // WHILELE pn8.s, x1, x2, x2-group
+    assert_eq!(decode(0x25e5_5893), Some([1, D, 5, 1, 0, 4, 1, 1, 0])); // WHILEHI p2.d/p3.d, x4, x5
+    assert_eq!(decode(0x252a_8c23), Some([3, B, 1, 0, 1, 1, 3, 0, 0])); // SQDECP x3, p1.b (64)
+}
+
+// ---- errors we have seen made ----
+
+/// "Letting a comparison that becomes true again after a wrap switch lanes back on".
+#[test]
+fn the_latch_outlasts_a_wrap() {
+    assert_eq!(while_one(B, 1, LO, u64::MAX - 1, 5).0, 0);
+    assert_eq!(while_one(B, 1, LO, u64::MAX - 1, u64::MAX).0, 1);
+    assert_eq!(while_one(B, 0, LT, 0x7fff_fffe, 0x7fff_ffff).0, 1);
+    assert_eq!(while_one(B, 1, LS, u64::MAX, u64::MAX).0, 0xffff);
+    assert_eq!(while_one(B, 1, GT, i64::MIN as u64 + 1, i64::MIN as u64).0, 0x8000);
+}
+
+/// "32 where the one-predicate form has sf=0, reading low words".
+#[test]
+fn narrow_operands() {
+    assert_eq!(while_one(B, 0, LO, 0xdead_beef_0000_0000, 3).0, 0b111);
+    assert_eq!(while_one(B, 0, LT, 0x0000_0000_ffff_ffff, 1).0, 0b11);
+    assert_eq!(while_one(B, 1, LT, 0x0000_0000_ffff_ffff, 1).0, 0);
+    assert_eq!(while_one(B, 0, LE, 0x7fff_fffe, 0xffff_ffff_7fff_ffff).0, 0xffff);
+}
+
+/// "Saturating the 32-bit form on the whole register".
+#[test]
+fn saturation_at_its_own_width() {
+    assert_eq!(saturated(0, 0, 0, 0x7fff_ffff, 1), 0x7fff_ffff);
+    assert_eq!(saturated(0, 1, 0, 0xffff_ffff_ffff_ffff, 1), 0xffff_ffff);
+    assert_eq!(saturated(1, 1, 0, 0xffff_ffff_0000_0001, 0b11), 0);
+    assert_eq!(saturated(0, 0, 1, i64::MAX as u64, 1), i64::MAX as u64);
+    assert_eq!(saturated(1, 0, 1, i64::MIN as u64, 1), i64::MIN as u64);
+    assert_eq!(saturated(0, 1, 1, u64::MAX, 1), u64::MAX);
+    assert_eq!(saturated(1, 0, 1, 1, 0b11), u64::MAX);
+}
+
+// ---- what else the paper says ----
+
+#[test]
+fn counters_read() {
+    assert_eq!(cntp_counter(S, 0, 0x001c), 3); // what example 7 wrote
+    assert_eq!(cntp_counter(S, 0, 0x8004), 8); // example 8: the whole group
+    assert_eq!(cntp_counter(S, 0, 0x802c), 3); // example 9: elements 5, 6, 7
+    assert_eq!(cntp_counter(S, 1, 0x802c), 11); // and all of the vectors above
+    assert_eq!(cntp_counter(B, 0, 0x001c), 3); // an element of S is one bit of a byte mask
+    assert_eq!(cntp_counter(D, 0, 0x001c), 2); // elements 0 and 2 of S lie lowest in one of D
+    assert_eq!(cntp_counter(B, 1, 0x7ff0), 0); // no mark
+    assert_eq!(cntp_counter(B, 1, 0x4001), 64); // bit 14 is of the count, far above 4E
+    assert_eq!(cntp_counter(B, 1, 0xc001), 0);
+}
+
+#[test]
+fn masks() {
+    let mut state = ready();
+    (state.p[0], state.p[1]) = (low(0x8001), low(0x0024));
+    do_step(&mut state, &[8, 1, 0]); // PFIRST P0 under P1
+    assert_eq!((state.p[0], state.flags), (low(0x8005), nzc(1, 0, 1)));
+    do_step(&mut state, &[9, 1, 0]); // PTEST
+    assert_eq!(state.flags, nzc(1, 0, 1));
+    do_step(&mut state, &[9, 5, 0]); // under an empty mask
+    assert_eq!(state.flags, nzc(0, 1, 1));
+    do_step(&mut state, &[7, B, 0, 0]); // PNEXT P0 over itself: nothing above the highest
+    assert_eq!((state.p[0], state.flags), (low(0), nzc(0, 1, 1)));
+    do_step(&mut state, &[5, H, 1, 1, 31]); // CNTP to number 31
+    assert_eq!(state.x, [0; 31]);
+    do_step(&mut state, &[5, H, 1, 1, 30]);
+    assert_eq!(state.x[30], 1); // bit 2 is an H element's lowest, bit 5 is not
+}
+
+#[test]
+fn refusals_of_a_step_in_their_order() {
+    let word = 0x25a2_1c20; // WHILELO p0.s, x1, x2: level 1
+    let mut state = ready();
+    (state.level, state.access) = (0, false);
+    state.p[15] = low(0x1_0000);
+    assert_eq!(step(&mut state.clone(), 0), 4);
+    assert_eq!(run(&state, &[]).reply, 4);
+    state.p[15] = low(0);
+    assert_eq!(step(&mut state, 0), 1);
+    assert_eq!(step(&mut state, word), 2);
+    state.level = 1;
+    assert_eq!(step(&mut state, word), 3);
+    state.access = true;
+    assert_eq!(step(&mut state, word & !(1 << 10)), 2); // WHILEHS is SVE2
+    assert_eq!(step(&mut state, word), 0);
+}
+
+// ---- words ----
+
+#[test]
+fn fixed_words() {
+    assert_eq!(encode(&[8, 3, 5, 0, 0, 0, 0, 0, 0]), Some(0x2558_c000 + 3 * 32 + 5));
+    assert_eq!(encode(&[9, 3, 5, 0, 0, 0, 0, 0, 0]), Some(0x2550_c000 + 3 * 1024 + 5 * 32));
+    assert_eq!(encode(&[10, 5, 0, 0, 0, 0, 0, 0, 0]), Some(0x2518_e400 + 5));
+    assert_eq!(encode(&[10, 16, 0, 0, 0, 0, 0, 0, 0]), None);
+    assert_eq!(encode(&[10, 5, 0, 0, 0, 0, 0, 0, 1]), None);
+    assert_eq!(encode(&[11, 0, 0, 0, 0, 0, 0, 0, 0]), None);
+}
+
+/// Every word that decodes is written back as itself, and there are as many as the forms' fields have values.
+#[test]
+fn decode_and_encode_agree() {
+    let mut known = [0; 11];
+    for word in 0x2500_0000..=0x25ff_ffff {
+        if let Some(row) = decode(word) {
+            assert_eq!(encode(&row), Some(word));
+            known[usize::from(row[0])] += 1;
+        }
+    }
+    let field_bits = [20, 18, 19, 14, 12, 15, 12, 10, 8, 8, 4];
+    assert_eq!(known, field_bits.map(|bits| 1 << bits));
+    assert_eq!(decode(0x24a2_1c20), None);
+}
+
+// ---- the walk ----
+
+/// Walks .S from `start` to `limit` with X1, X2, P3 and P4, with a list longer by two than it need be.
+fn walk_s(start: u64, limit: u64, budget: u64) -> (Walked, Vec<u64>) {
+    let mut state = ready();
+    (state.x[1], state.x[2]) = (start, limit);
+    let mut list = vec![77; limit.saturating_sub(start) as usize + 2];
+    let walked = walk(&state, 2, 1, 2, 3, 4, &mut list, budget);
+    (walked, list)
+}
+
+/// "The count is fixed by D + 3R + 2", and the end is as the paper says.
+#[test]
+fn walks_that_finish() {
+    for (start, limit) in [(10, 13), (10, 14), (0, 21), (5, 5), (9, 2), (u64::MAX - 9, u64::MAX)] {
+        let distance = limit.saturating_sub(start);
+        let need = distance + 3 * distance.div_ceil(4) + 2;
+        let (walked, list) = walk_s(start, limit, u64::MAX);
+        assert_eq!((walked.reply, walked.count), (0, need));
+        assert_eq!(walked.state.x[1], start.max(limit));
+        assert_eq!((walked.state.p[3], walked.state.p[4], walked.state.flags), (low(0), low(0), nzc(0, 1, 1)));
+        let mut positions: Vec<u64> = (start..limit).collect();
+        positions.extend([77, 77]);
+        assert_eq!(list, positions);
+        assert_eq!(walk_s(start, limit, need).0.reply, 0);
+        assert_eq!(walk_s(start, limit, need - 1).0.reply, 12);
+    }
+}
+
+#[test]
+fn a_walk_cut_short() {
+    let (walked, list) = walk_s(10, 13, 4); // PFALSE, WHILELO, PNEXT, PNEXT
+    assert_eq!((walked.reply, walked.count), (12, 4));
+    assert_eq!(list, [10, 11, 77, 77, 77]);
+    assert_eq!((walked.state.p[3], walked.state.p[4]), (low(0x0111), low(0x0010)));
+    let (walked, list) = walk_s(10, 13, 0);
+    assert_eq!((walked.reply, walked.count, list), (12, 0, vec![77; 5]));
+}
+
+#[test]
+fn refusals_of_a_walk_in_their_order() {
+    let mut state = ready();
+    (state.level, state.access, state.x[2], state.vl) = (0, false, 1, 100);
+    assert_eq!(walk(&state, 9, 1, 1, 1, 1, &mut [], 0).reply, 4);
+    state.vl = 256;
+    let bad = [[4, 1, 2, 3, 4], [0, 31, 2, 3, 4], [0, 1, 32, 3, 4], [0, 1, 1, 3, 4], [0, 1, 2, 16, 4], [0, 1, 2, 3, 3]];
+    for [size, n, m, d, k] in bad {
+        assert_eq!(walk(&state, size, n, m, d, k, &mut [], 0).reply, 10);
+    }
+    assert_eq!(walk(&state, 0, 1, 2, 3, 4, &mut [], 0).reply, 2);
+    state.level = 1;
+    assert_eq!(walk(&state, 0, 1, 2, 3, 4, &mut [], 0).reply, 3);
+    state.access = true;
+    assert_eq!(walk(&state, 0, 1, 2, 3, 4, &mut [], 0).reply, 11);
+    assert_eq!(walk(&state, 0, 1, 2, 3, 4, &mut [0], 0).reply, 12);
+    assert_eq!(walk(&state, 0, 1, 31, 3, 4, &mut [], 2).reply, 0); // a limit of zero
+}
+
+// ---- images and the program ----
+
+fn image_of(state: &State, words: &[u32]) -> Vec<u8> {
+    let mut image = vec![0; 17171];
+    let written = write(state, words, &mut image);
+    assert_eq!(written.reply, 0);
+    image.truncate(written.length);
+    image
+}
+
+fn program() -> Vec<u8> {
+    let mut state = ready();
+    (state.level, state.x[1], state.x[2]) = (1, 10, 13);
+    image_of(&state, &[0x25a2_1c20, 0x2519_c401, 0])
+}
+
+#[test]
+fn the_program() {
+    let lines = "0 25a21c20 0 1010\n1 2519c401 0 1010\n2 00000000 1 1010\nend 2\n";
+    assert_eq!(text(&program()), lines.as_bytes());
+    assert_eq!(text(&program()[..300]), b"image 5\n");
+    let mut buffer = [b'.'; 30];
+    let length = text_in(&program(), &mut buffer);
+    assert_eq!(&buffer[..length], b"0 25a21c20 0 1010\nend 2\n");
+    assert_eq!(&buffer[length..], b"......");
+}
+
+#[test]
+fn images_read_as_written() {
+    assert_eq!(image_of(&ready(), &[]).len(), 307);
+    let mut state = ready();
+    (state.vl, state.x[30], state.flags.v) = (2048, 0x0123_4567_89ab_cdef, true);
+    state.p[15] = [1, 2, 3, u64::MAX];
+    let image = image_of(&state, &[5; 4096]);
+    assert_eq!(image.len(), 17171);
+    let mut words = [9; 4097];
+    let reading = read(&image, &mut words);
+    assert_eq!((reading.reply, reading.count, reading.state), (0, 4096, state.clone()));
+    assert_eq!((words[4095], words[4096]), (5, 9));
+    assert_eq!(write(&state, &[0; 4097], &mut []).reply, 6);
+    assert_eq!(write(&state, &[], &mut [0; 786]).reply, 8);
+}
+
+#[test]
+fn refusals_of_an_image() {
+    let reply = |image: &[u8]| read(image, &mut [0; 3]).reply;
+    let image = program();
+    for length in 0..image.len() {
+        assert_eq!(reply(&image[..length]), 5);
+    }
+    let with = |place: usize, byte: u8| {
+        let mut changed = image.clone();
+        changed[place] = byte;
+        reply(&changed)
+    };
+    // The counts; VL, level and access; a flag.
+    for (place, byte) in [(0, 4), (7, 30), (259, 17), (295, 5), (304, 17), (4, 3), (5, 4), (6, 2), (302, 2)] {
+        assert_eq!(with(place, byte), 6, "byte {place}");
+    }
+    assert_eq!(with(303, 4), 5); // one word more than there are
+    assert_eq!(with(303, 2), 7);
+    let reading = read(&image, &mut [0; 2]);
+    assert_eq!((reading.reply, reading.count), (8, 0));
+    assert_eq!(reading.state, State { level: 0, access: false, ..ready() });
+}

@@ -1,0 +1,144 @@
+use crate::{ffi, Reply, State};
+
+/// What [`run`] answers: `done` words were executed, and `state` is what they left.
+/// `reply` is that to the word after them, or done if there is none.
+#[derive(Clone, Debug, PartialEq, Eq)]
+#[must_use]
+pub struct Ran {
+    pub reply: Reply,
+    pub done: usize,
+    pub state: State,
+}
+
+/// Executes words one after the other until one is refused. An illegal state is refused (4) even if there are no words.
+/// The faster way for more than one word.
+///
+/// ```
+/// use plokamyr::{run, Reply, State};
+///
+/// let ran = run(&State::new(128, 1), &[0x25A2_1C20, 0x2519_C401, 0]);
+/// assert_eq!((ran.reply, ran.done), (Reply::UnknownWord, 2));
+/// ```
+pub fn run(state: &State, words: &[u32]) -> Ran {
+    let ffi::Ran { reply, done, state } = ffi::run(state, words);
+    let reply = ffi::reply(reply);
+    Ran { reply, done, state }
+}
+
+/// What [`walk`] answers: `count` instructions were executed, and `state` is what they left.
+/// For a refusal other than 12, 0 and the given state.
+#[derive(Clone, Debug, PartialEq, Eq)]
+#[must_use]
+pub struct Walked {
+    pub reply: Reply,
+    pub count: u64,
+    pub state: State,
+}
+
+/// PFALSE Pk; then WHILELO Pd from Xn to Xm, PNEXT Pk through Pd, INCP Xn by Pd, repeated until no lane is left.
+/// `size` is 0 to 3 for B, H, S, D. Each position visited goes to the next place of `list`; other places stay.
+///
+/// With D = Xm - Xn (0 if Xn is at or above Xm), E elements in a vector and R = D / E rounded up, the walk ends exactly
+/// if `budget` is at least D + 3R + 2. Refusals, the first that applies: 4, 10, 2 (level 0), 3, 11, 12.
+///
+/// ```
+/// use plokamyr::{walk, Reply, State};
+///
+/// let mut state = State::new(128, 1);
+/// state.x[0] = 10;
+/// state.x[1] = 13;
+/// let mut list = [0; 4];
+/// let walked = walk(&state, 0, 0, 1, 0, 1, &mut list, 100);
+/// assert_eq!((walked.reply, walked.count), (Reply::Done, 3 + 3 + 2));
+/// assert_eq!(list, [10, 11, 12, 0]);
+/// ```
+#[allow(clippy::too_many_arguments)] // as in C and the papers
+pub fn walk(state: &State, size: u32, n: u32, m: u32, d: u32, k: u32, list: &mut [u64], budget: u64) -> Walked {
+    let route = ffi::Route { size, n, m, d, k };
+    let ffi::Walked { reply, count, state } = ffi::walk(state, route, list, budget);
+    let reply = ffi::reply(reply);
+    Walked { reply, count, state }
+}
+
+/// The most words that an image holds.
+pub const WORDS_MAX: usize = 4096;
+/// The most bytes that an image has.
+pub const IMAGE_MAX: usize = 17171;
+/// Room for the text of any image, in bytes.
+pub const TEXT_MAX: usize = 86026;
+
+/// What [`read`] answers: `count` words stand at the front of the list.
+/// For a refusal: 0, and a state of `vl` 128 with all else zero.
+#[derive(Clone, Debug, PartialEq, Eq)]
+#[must_use]
+pub struct Reading {
+    pub reply: Reply,
+    pub count: usize,
+    pub state: State,
+}
+
+/// Reads an image, and puts its words at the front of `words`; other places stay.
+/// Refusals: 5 and 6 by the first section at fault, then 7, then 8.
+///
+/// ```
+/// use plokamyr::{read, write, Reply, State, IMAGE_MAX, WORDS_MAX};
+///
+/// let (mut image, mut words) = ([0; IMAGE_MAX], [0; WORDS_MAX]);
+/// let length = write(&State::new(256, 2), &[7, 8], &mut image).length;
+/// let reading = read(&image[..length], &mut words);
+/// assert_eq!((reading.reply, reading.count, &words[..2]), (Reply::Done, 2, &[7, 8][..]));
+/// assert_eq!(reading.state, State::new(256, 2));
+/// ```
+pub fn read(image: &[u8], words: &mut [u32]) -> Reading {
+    let ffi::Reading { reply, count, state } = ffi::read(image, words);
+    let reply = ffi::reply(reply);
+    Reading { reply, count, state }
+}
+
+/// What [`write()`] answers: `length` bytes were written; for a refusal 0.
+#[derive(Clone, Copy, Debug, PartialEq, Eq)]
+#[must_use]
+pub struct Written {
+    pub reply: Reply,
+    pub length: usize,
+}
+
+/// Writes the image of a state and words at the front of `image`; other bytes stay.
+/// Refusals: 4, then 6 (more than 4,096 words), then 8.
+///
+/// ```
+/// use plokamyr::{write, Reply, State};
+///
+/// let written = write(&State::new(128, 1), &[], &mut [0; 400]);
+/// assert_eq!((written.reply, written.length), (Reply::Done, 307));
+/// assert_eq!(write(&State::new(128, 1), &[], &mut [0; 306]).reply, Reply::BufferTooSmall);
+/// ```
+pub fn write(state: &State, words: &[u32], image: &mut [u8]) -> Written {
+    let ffi::Written { reply, length } = ffi::write(state, words, image);
+    let reply = ffi::reply(reply);
+    Written { reply, length }
+}
+
+/// What the program prints for an image: a line for each word stepped and `end`, or `image` and the reply alone.
+///
+/// ```
+/// assert_eq!(plokamyr::text(b"too short"), b"image 6\n");
+/// ```
+pub fn text(image: &[u8]) -> Vec<u8> {
+    let mut text = vec![0; TEXT_MAX];
+    let length = text_in(image, &mut text);
+    text.truncate(length);
+    text
+}
+
+/// Writes the [`text`] of an image at the front of `text` and answers how many bytes that took.
+/// A line that has no room is left out whole.
+///
+/// ```
+/// let mut text = [0; 10];
+/// let length = plokamyr::text_in(&[], &mut text);
+/// assert_eq!(&text[..length], b"image 5\n");
+/// ```
+pub fn text_in(image: &[u8], text: &mut [u8]) -> usize {
+    ffi::text(image, text)
+}

@@ -1,0 +1,30 @@
+//! Plokamyr, the predicate part of an Arm SVE interpreter: the proved library behind types that leave nothing to get wrong.
+//!
+//! What C leaves to the caller (valid pointers, buffers that do not overlap, bools of 0 or 1) the types here give.
+//! Every call is answered: a refusal carries its [`Reply`] and leaves every state and buffer as it was, but for
+//! [`Reply::BudgetSpent`], which keeps the work done so far.
+//!
+//! Buffers of one call that overlap, for one, do not compile:
+//!
+//! ```compile_fail,E0502
+//! let mut buffer = [0; 400];
+//! plokamyr::text_in(&buffer, &mut buffer);
+//! ```
+//!
+//! The library itself is an archive; `rt staticlib capi` makes it. `PLOKAMYR_LIB` names its folder in full if that
+//! is not `target/staticlib` of the repository.
+
+#![deny(unsafe_code)]
+#![warn(missing_debug_implementations)]
+
+mod calls;
+#[allow(unsafe_code)]
+mod ffi;
+mod reply;
+mod row;
+mod state;
+
+pub use calls::{read, run, text, text_in, walk, write, Ran, Reading, Walked, Written, IMAGE_MAX, TEXT_MAX, WORDS_MAX};
+pub use reply::Reply;
+pub use row::{decode, encode, Form, Row};
+pub use state::{Flags, Predicate, State};

@@ -1,0 +1,105 @@
+use crate::{ffi, Reply};
+
+/// A predicate register: bit `b` is bit `b % 64` of `words[b / 64]`.
+///
+/// ```
+/// use plokamyr::Predicate;
+///
+/// assert!(Predicate { words: [0, 4, 0, 0] }.bit(66));
+/// assert_eq!(Predicate::from(0x0111).words, [0x0111, 0, 0, 0]);
+/// ```
+#[derive(Clone, Copy, Debug, Default, PartialEq, Eq, Hash)]
+#[repr(C)]
+pub struct Predicate {
+    pub words: [u64; 4],
+}
+
+impl Predicate {
+    /// Bit `b`, false from 256 on.
+    pub fn bit(&self, b: usize) -> bool {
+        self.words.get(b / 64).is_some_and(|word| word >> (b % 64) & 1 == 1)
+    }
+}
+
+impl From<u64> for Predicate {
+    /// The predicate whose lowest 64 bits are these, with no other set.
+    fn from(low: u64) -> Self {
+        Predicate { words: [low, 0, 0, 0] }
+    }
+}
+
+/// The condition flags.
+///
+/// ```
+/// let flags = plokamyr::Flags { n: true, c: true, ..Default::default() };
+/// assert_eq!(flags.to_string(), "1010");
+/// ```
+#[derive(Clone, Copy, Debug, Default, PartialEq, Eq, Hash)]
+#[repr(C)]
+pub struct Flags {
+    pub n: bool,
+    pub z: bool,
+    pub c: bool,
+    pub v: bool,
+}
+
+impl std::fmt::Display for Flags {
+    /// NZCV, as the program prints them.
+    fn fmt(&self, out: &mut std::fmt::Formatter) -> std::fmt::Result {
+        let bits = [self.n, self.z, self.c, self.v].map(u8::from);
+        bits.iter().try_for_each(|bit| write!(out, "{bit}"))
+    }
+}
+
+/// The register state. Any value may be handed to the library: one that is not legal gets [`Reply::IllegalState`].
+///
+/// ```
+/// use plokamyr::{Predicate, Reply, State};
+///
+/// let mut state = State::new(128, 1);
+/// state.x[1] = 10;
+/// state.x[2] = 13;
+/// assert_eq!(state.step(0x25A2_1C20), Reply::Done); // WHILELO p0.s, x1, x2
+/// assert_eq!(state.p[0], Predicate::from(0x0111));
+/// assert_eq!(state.flags.to_string(), "1010");
+/// ```
+#[derive(Clone, Debug, PartialEq, Eq, Hash)]
+#[repr(C)]
+pub struct State {
+    /// The vector length in bits: 128, 256, 512, 1024 or 2048.
+    pub vl: u64,
+    /// 0 none, 1 SVE, 2 SVE2, 3 SVE2p1.
+    pub level: u8,
+    pub access: bool,
+    pub flags: Flags,
+    pub x: [u64; 31],
+    pub p: [Predicate; 16],
+}
+
+impl State {
+    /// A state with access on and all registers and flags zero.
+    ///
+    /// ```
+    /// use plokamyr::{Reply, State};
+    ///
+    /// assert_eq!(State::new(128, 1).step(0x2518_E400), Reply::Done); // PFALSE p0
+    /// assert_eq!(State::new(100, 1).step(0x2518_E400), Reply::IllegalState);
+    /// ```
+    pub fn new(vl: u64, level: u8) -> State {
+        State { vl, level, access: true, flags: Flags::default(), x: [0; 31], p: [Predicate::default(); 16] }
+    }
+
+    /// Executes one instruction word. Refusals, which leave the state as it was, the first that applies: 4, 1, 2, 3.
+    ///
+    /// ```
+    /// use plokamyr::{Reply, State};
+    ///
+    /// let mut state = State::new(128, 0);
+    /// let before = state.clone();
+    /// assert_eq!(state.step(0x2518_E400), Reply::LevelTooLow); // PFALSE p0 asks level 1
+    /// assert_eq!(state, before);
+    /// ```
+    pub fn step(&mut self, word: u32) -> Reply {
+        ffi::step(self, word)
+    }
+}

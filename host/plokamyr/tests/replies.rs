@@ -1,0 +1,122 @@
+//! Each of the thirteen replies, through the wrapper, with what it leaves as it was.
+
+use plokamyr::{decode, encode, read, run, text, text_in, walk, write, Form, Predicate, Reply, Row, State};
+
+const PFALSE: u32 = 0x2518_E400;
+
+fn state() -> State {
+    let mut state = State::new(128, 1);
+    state.x[1] = 10;
+    state.x[2] = 13;
+    state.p[5] = Predicate::from(0x00A5);
+    state
+}
+
+/// A step that is refused, and a run of that word, leave the state.
+fn expect_refused(state: &State, word: u32, reply: Reply) {
+    let mut stepped = state.clone();
+    assert_eq!(stepped.step(word), reply);
+    assert_eq!(&stepped, state);
+    let ran = run(state, &[word, PFALSE]);
+    assert_eq!((ran.reply, ran.done, &ran.state), (reply, 0, state));
+}
+
+#[test]
+fn steps() {
+    expect_refused(&state(), 0, Reply::UnknownWord);
+    expect_refused(&State { level: 0, ..state() }, PFALSE, Reply::LevelTooLow);
+    expect_refused(&State { access: false, ..state() }, PFALSE, Reply::AccessOff);
+    expect_refused(&State { vl: 384, ..state() }, PFALSE, Reply::IllegalState);
+    expect_refused(&State { level: 4, ..state() }, PFALSE, Reply::IllegalState);
+    let mut past = state();
+    past.p[15] = Predicate::from(0x1_0000);
+    expect_refused(&past, PFALSE, Reply::IllegalState);
+    assert_eq!(run(&past, &[]).reply, Reply::IllegalState);
+    assert_eq!(run(&state(), &[]).reply, Reply::Done);
+}
+
+/// A walk that is refused leaves state and list.
+fn expect_no_walk(route: [u32; 5], places: usize, reply: Reply) {
+    let [size, n, m, d, k] = route;
+    let mut list = vec![7; places];
+    let walked = walk(&state(), size, n, m, d, k, &mut list, 0);
+    assert_eq!((walked.reply, walked.count, walked.state), (reply, 0, state()));
+    assert!(list.iter().all(|place| *place == 7));
+}
+
+#[test]
+fn walks() {
+    for past in [16, 31, 32, 255, 256, 1 << 16, u32::MAX] {
+        expect_no_walk([past, 1, 2, 3, 4], 3, Reply::BadWalkRegisters);
+        expect_no_walk([0, past.max(31), 2, 3, 4], 3, Reply::BadWalkRegisters);
+        expect_no_walk([0, 1, past.max(32), 3, 4], 3, Reply::BadWalkRegisters);
+        expect_no_walk([0, 1, 2, past, 4], 3, Reply::BadWalkRegisters);
+        expect_no_walk([0, 1, 2, 3, past], 3, Reply::BadWalkRegisters);
+    }
+    expect_no_walk([4, 1, 2, 3, 4], 3, Reply::BadWalkRegisters);
+    expect_no_walk([0, 1, 2, 3, 4], 2, Reply::ListTooShort);
+    expect_no_walk([0, 1, 2, 3, 4], 0, Reply::ListTooShort);
+    expect_no_walk([0, 1, 2, 3, 4], 3, Reply::BudgetSpent);
+}
+
+#[test]
+fn a_spent_budget_keeps_its_work() {
+    let mut list = [0; 3];
+    let walked = walk(&state(), 0, 1, 2, 3, 4, &mut list, 4);
+    assert_eq!((walked.reply, walked.count, list), (Reply::BudgetSpent, 4, [10, 11, 0]));
+    assert_eq!(walked.state.p[4], Predicate::from(0b10));
+}
+
+#[test]
+fn images() {
+    let mut image = [0; 320];
+    let length = write(&state(), &[1, 2], &mut image).length;
+    assert_eq!(length, 307 + 8);
+    let expect = |bytes: &[u8], places: usize, reply: Reply| {
+        let mut words = vec![7; places];
+        let reading = read(bytes, &mut words);
+        let nothing = State { access: false, ..State::new(128, 0) };
+        assert_eq!((reading.reply, reading.count, reading.state), (reply, 0, nothing));
+        assert!(words.iter().all(|word| *word == 7));
+    };
+    expect(&[], 0, Reply::ImageCut);
+    expect(&image[..length - 1], 2, Reply::ImageCut);
+    expect(&image[1..], 2, Reply::NotAllowed);
+    expect(&image[..=length], 2, Reply::TrailingBytes);
+    expect(&image[..length], 1, Reply::BufferTooSmall);
+}
+
+#[test]
+fn writes() {
+    let expect = |state: &State, count: usize, room: usize, reply: Reply| {
+        let mut image = vec![7; room];
+        let written = write(state, &vec![0; count], &mut image);
+        assert_eq!((written.reply, written.length), (reply, 0));
+        assert!(image.iter().all(|byte| *byte == 7));
+    };
+    expect(&State { vl: 0, ..state() }, 5000, 0, Reply::IllegalState);
+    expect(&state(), 4097, 0, Reply::NotAllowed);
+    expect(&state(), 0, 306, Reply::BufferTooSmall);
+    expect(&state(), 0, 0, Reply::BufferTooSmall);
+}
+
+#[test]
+fn texts() {
+    let mut image = [0; 400];
+    let length = write(&state(), &[0x25A2_1C20, 0x2519_C401, 0], &mut image).length;
+    let lines = b"0 25a21c20 0 1010\n1 2519c401 0 1010\n2 00000000 1 1010\nend 2\n";
+    assert_eq!(text(&image[..length]), lines);
+    assert_eq!(text_in(&image[..length], &mut []), 0);
+}
+
+#[test]
+fn words() {
+    assert_eq!(decode(0), Err(Reply::UnknownWord));
+    let row = Row::new(Form::WhileOne, &[2, 2, 1, 1, 1, 1, 0, 0]).unwrap();
+    assert_eq!(decode(0x25A2_1C20), Ok(row));
+    assert_eq!(encode(row), Ok(0x25A2_1C20));
+    let past = Row { form: Form::Pfalse, fields: [16, 0, 0, 0, 0, 0, 0, 0] };
+    assert_eq!(encode(past), Err(Reply::FieldPastRange));
+    let more = Row { form: Form::Pfalse, fields: [0, 0, 0, 0, 0, 0, 0, 1] };
+    assert_eq!(encode(more), Err(Reply::FieldPastRange));
+}

@@ -1,0 +1,95 @@
+/* What the tests share: counted checks, states with distinct values, guards around what is lent. */
+#ifndef CHECK_H
+#define CHECK_H
+
+#include <plokamyr.h>
+#include <stdio.h>
+#include <string.h>
+
+static unsigned long checks, failures;
+
+static inline void check_at(bool held, const char *file, int line, const char *what) {
+    checks++;
+    if (held) return;
+    failures++;
+    fprintf(stderr, "%s:%d: %s\n", file, line, what);
+}
+
+#define CHECK(condition) check_at((condition), __FILE__, __LINE__, #condition)
+
+static inline int finish(const char *name) {
+    if (failures) {
+        printf("%s: %lu of %lu checks failed\n", name, failures, checks);
+        return 1;
+    }
+    printf("%s: %lu checks\n", name, checks);
+    return 0;
+}
+
+static const uint64_t lengths[5] = {128, 256, 512, 1024, 2048};
+
+/* A different number for each place. */
+static inline uint64_t mixed(uint64_t place) {
+    uint64_t z = (place + 1) * 0x9E3779B97F4A7C15;
+    z = (z ^ (z >> 30)) * 0xBF58476D1CE4E5B9;
+    z = (z ^ (z >> 27)) * 0x94D049BB133111EB;
+    return z ^ (z >> 31);
+}
+
+/* The bits of a predicate's word that a vector length has. */
+static inline uint64_t live(uint64_t vl, uint64_t word) {
+    uint64_t bits = vl / 8;
+    if (bits <= word * 64) return 0;
+    bits -= word * 64;
+    return bits >= 64 ? UINT64_MAX : (UINT64_C(1) << bits) - 1;
+}
+
+/* A legal state with a different number in each register; what lies between the fields is no zero. */
+static inline struct plokamyr_state sample(uint64_t vl) {
+    struct plokamyr_state state;
+    memset(&state, 0xA5, sizeof state);
+    state.vl = vl;
+    state.level = 3;
+    state.access = true;
+    state.flags = (struct plokamyr_flags){.n = true, .z = false, .c = true, .v = true};
+    for (uint64_t i = 0; i < 31; i++) state.x[i] = mixed(i);
+    for (uint64_t i = 0; i < 16; i++) {
+        for (uint64_t k = 0; k < 4; k++) state.p[i].words[k] = mixed(100 + 4 * i + k) & live(vl, k);
+    }
+    return state;
+}
+
+/* Field by field, since what lies between them is nobody's. */
+static inline bool same_state(const struct plokamyr_state *a, const struct plokamyr_state *b) {
+    bool settings = a->vl == b->vl && a->level == b->level && a->access == b->access;
+    bool flags = a->flags.n == b->flags.n && a->flags.z == b->flags.z && a->flags.c == b->flags.c && a->flags.v == b->flags.v;
+    bool registers = memcmp(a->x, b->x, sizeof a->x) == 0 && memcmp(a->p, b->p, sizeof a->p) == 0;
+    return settings && flags && registers;
+}
+
+/* A variable, declared as `value`, with guards on both sides. */
+#define GUARD 64
+#define GUARDED(declared) struct { uint8_t before[GUARD]; declared; uint8_t after[GUARD]; }
+
+static inline bool is_filled(const void *from, size_t length) {
+    const uint8_t *bytes = from;
+    for (size_t i = 0; i < length; i++) {
+        if (bytes[i] != 0xA5) return false;
+    }
+    return true;
+}
+
+static inline void fill(void *from, size_t length) {
+    memset(from, 0xA5, length);
+}
+
+#define FILL(box) fill(&(box), sizeof(box))
+#define CHECK_GUARDS(box) CHECK(is_filled((box).before, GUARD) && is_filled((box).after, GUARD))
+
+/* Leaves no zeros below on the stack: a place that a call does not write shows. */
+static void __attribute__((noinline, unused)) poison_stack(void) {
+    volatile uint8_t area[60000];
+    for (size_t i = 0; i < sizeof area; i++) area[i] = 0xA5;
+}
+
+#endif

@@ -1,0 +1,540 @@
+/* Every refusal that each function can give, in its order, and that it leaves all as it was; nulls, empty lists, numbers past their range. */
+#include "check.h"
+
+enum {
+    PFALSE = 0x2518E400,       /* p0: level 1 */
+    WHILEGE = 0x25201000,      /* p0.b, x0, x0: level 2 */
+    WHILE_COUNTER = 0x25204010 /* level 3 */
+};
+
+static const uint32_t foreign[6] = {0, 0xFFFFFFFF, 0x2518E410, 0x2519C410, 0x25000000, 0x24201C00};
+
+/* ---- illegal states */
+
+enum { ILLEGAL = 28 };
+
+static struct plokamyr_state with_length(uint64_t vl) {
+    struct plokamyr_state s = sample(128);
+    s.vl = vl;
+    return s;
+}
+
+static struct plokamyr_state with_level(uint8_t level) {
+    struct plokamyr_state s = sample(512);
+    s.level = level;
+    return s;
+}
+
+/* A legal state but for one bit of a predicate, at or above vl / 8. */
+static struct plokamyr_state with_bit(uint64_t vl, int p, uint64_t bit) {
+    struct plokamyr_state s = sample(vl);
+    s.p[p].words[bit / 64] |= UINT64_C(1) << (bit % 64);
+    return s;
+}
+
+static struct plokamyr_state illegal(int number) {
+    static const uint64_t bad[14] = {0, 1, 16, 127, 129, 192, 384, 640, 1920, 2049, 4096, 0x100000080, UINT64_C(1) << 63, UINT64_MAX};
+    if (number < 14) return with_length(bad[number]);
+    static const uint8_t levels[6] = {4, 5, 8, 128, 254, 255};
+    if (number < 20) return with_level(levels[number - 14]);
+    uint64_t vl = lengths[(number - 20) % 4];
+    return number < 24 ? with_bit(vl, number - 20, vl / 8) : with_bit(vl, number - 12, 255);
+}
+
+/* ---- step */
+
+static void expect_step(const struct plokamyr_state *s, uint32_t word, enum plokamyr_reply reply) {
+    static GUARDED(struct plokamyr_state value) box;
+    FILL(box);
+    box.value = *s;
+    CHECK(plokamyr_step(&box.value, word) == reply);
+    CHECK(same_state(&box.value, s));
+    CHECK_GUARDS(box);
+}
+
+static void step_refusals(void) {
+    for (int i = 0; i < ILLEGAL; i++) {
+        struct plokamyr_state s = illegal(i);
+        s.access = false;
+        expect_step(&s, PFALSE, PLOKAMYR_ILLEGAL_STATE);
+        expect_step(&s, 0, PLOKAMYR_ILLEGAL_STATE);
+    }
+    static const uint32_t words[4] = {0, PFALSE, WHILEGE, WHILE_COUNTER};
+    for (uint8_t level = 0; level < 4; level++) {
+        struct plokamyr_state s = with_level(level);
+        s.access = false;
+        for (int i = 0; i < 6; i++) expect_step(&s, foreign[i], PLOKAMYR_UNKNOWN_WORD);
+        for (uint8_t asked = 1; asked < 4; asked++) {
+            expect_step(&s, words[asked], level < asked ? PLOKAMYR_LEVEL_TOO_LOW : PLOKAMYR_ACCESS_OFF);
+        }
+    }
+}
+
+/* ---- run */
+
+static void expect_run(const struct plokamyr_state *s, const uint32_t *words, size_t count, enum plokamyr_reply reply) {
+    struct plokamyr_state given = *s;
+    poison_stack();
+    struct plokamyr_ran ran = plokamyr_run(given, words, count);
+    CHECK(ran.reply == reply);
+    CHECK(ran.done == 0);
+    CHECK(same_state(&ran.state, s));
+    CHECK(same_state(&given, s));
+}
+
+static void run_refusals(void) {
+    static const uint32_t words[2] = {PFALSE, 0};
+    for (int i = 0; i < ILLEGAL; i++) {
+        struct plokamyr_state s = illegal(i);
+        expect_run(&s, NULL, 0, PLOKAMYR_ILLEGAL_STATE);
+        expect_run(&s, words, 0, PLOKAMYR_ILLEGAL_STATE);
+        expect_run(&s, words, 2, PLOKAMYR_ILLEGAL_STATE);
+        expect_run(&s, words + 1, 1, PLOKAMYR_ILLEGAL_STATE);
+    }
+    struct plokamyr_state s = with_level(0);
+    s.access = false;
+    expect_run(&s, NULL, 0, PLOKAMYR_DONE);
+    for (int i = 0; i < 6; i++) expect_run(&s, foreign + i, 1, PLOKAMYR_UNKNOWN_WORD);
+    expect_run(&s, words, 2, PLOKAMYR_LEVEL_TOO_LOW);
+    s.level = 3;
+    expect_run(&s, words, 2, PLOKAMYR_ACCESS_OFF);
+}
+
+/* A refused word keeps what those before it did. */
+static void run_stops(void) {
+    static const uint32_t words[5] = {PFALSE, PFALSE + 1, PFALSE + 2, WHILEGE, PFALSE + 3};
+    struct plokamyr_state s = with_level(1), after = s;
+    memset(after.p, 0, 3 * sizeof after.p[0]);
+    struct plokamyr_ran ran = plokamyr_run(s, words, 5);
+    CHECK(ran.reply == PLOKAMYR_LEVEL_TOO_LOW);
+    CHECK(ran.done == 3);
+    CHECK(same_state(&ran.state, &after));
+    ran = plokamyr_run(s, words, 3);
+    CHECK(ran.reply == PLOKAMYR_DONE);
+    CHECK(ran.done == 3);
+    CHECK(same_state(&ran.state, &after));
+}
+
+/* ---- walk */
+
+struct route {
+    uint32_t size, n, m, d, k;
+};
+
+enum { PLACES = 300 };
+static GUARDED(uint64_t value[PLACES]) list;
+
+static struct plokamyr_walked go(const struct plokamyr_state *s, struct route r, size_t places, uint64_t budget) {
+    FILL(list);
+    return plokamyr_walk(*s, r.size, r.n, r.m, r.d, r.k, places ? list.value : NULL, places, budget);
+}
+
+static void expect_walk(const struct plokamyr_state *s, struct route r, size_t places, uint64_t budget, enum plokamyr_reply reply) {
+    struct plokamyr_walked walked = go(s, r, places, budget);
+    CHECK(walked.reply == reply);
+    CHECK(walked.count == 0);
+    CHECK(same_state(&walked.state, s));
+    CHECK(is_filled(&list, sizeof list));
+}
+
+/* X1 to X2 are three positions. */
+static const struct route good = {0, 1, 2, 3, 4};
+
+static struct plokamyr_state walker(uint64_t vl) {
+    struct plokamyr_state s = sample(vl);
+    s.x[1] = 1000;
+    s.x[2] = 1003;
+    return s;
+}
+
+static void walk_registers(void) {
+    struct plokamyr_state s = walker(128);
+    s.level = 0;
+    s.access = false;
+    static const uint32_t past[7] = {32, 33, 64, 255, 256, 0x10000, 0xFFFFFFFF};
+    for (int i = 0; i < 7; i++) {
+        expect_walk(&s, (struct route){past[i], 1, 2, 3, 4}, 0, 0, PLOKAMYR_BAD_WALK_REGISTERS);
+        expect_walk(&s, (struct route){0, past[i], 2, 3, 4}, 0, 0, PLOKAMYR_BAD_WALK_REGISTERS);
+        expect_walk(&s, (struct route){0, 1, past[i], 3, 4}, 0, 0, PLOKAMYR_BAD_WALK_REGISTERS);
+        expect_walk(&s, (struct route){0, 1, 2, past[i], 4}, 0, 0, PLOKAMYR_BAD_WALK_REGISTERS);
+        expect_walk(&s, (struct route){0, 1, 2, 3, past[i]}, 0, 0, PLOKAMYR_BAD_WALK_REGISTERS);
+    }
+    expect_walk(&s, (struct route){4, 1, 2, 3, 4}, 0, 0, PLOKAMYR_BAD_WALK_REGISTERS);
+    expect_walk(&s, (struct route){0, 31, 2, 3, 4}, 0, 0, PLOKAMYR_BAD_WALK_REGISTERS);
+    expect_walk(&s, (struct route){0, 1, 2, 16, 4}, 0, 0, PLOKAMYR_BAD_WALK_REGISTERS);
+    expect_walk(&s, (struct route){0, 1, 2, 3, 16}, 0, 0, PLOKAMYR_BAD_WALK_REGISTERS);
+    expect_walk(&s, (struct route){0, 2, 2, 3, 4}, 0, 0, PLOKAMYR_BAD_WALK_REGISTERS);
+    expect_walk(&s, (struct route){0, 1, 2, 4, 4}, 0, 0, PLOKAMYR_BAD_WALK_REGISTERS);
+}
+
+static void walk_refusals(void) {
+    for (int i = 0; i < ILLEGAL; i++) {
+        struct plokamyr_state s = illegal(i);
+        s.access = false;
+        expect_walk(&s, good, PLACES, 100, PLOKAMYR_ILLEGAL_STATE);
+        expect_walk(&s, (struct route){4, 32, 32, 16, 16}, 0, 0, PLOKAMYR_ILLEGAL_STATE);
+    }
+    struct plokamyr_state s = walker(128);
+    s.level = 0;
+    s.access = false;
+    expect_walk(&s, good, 0, 0, PLOKAMYR_LEVEL_TOO_LOW);
+    s.level = 1;
+    expect_walk(&s, good, 0, 0, PLOKAMYR_ACCESS_OFF);
+    s.access = true;
+    expect_walk(&s, good, 0, 100, PLOKAMYR_LIST_TOO_SHORT);
+    expect_walk(&s, good, 2, 100, PLOKAMYR_LIST_TOO_SHORT);
+    expect_walk(&s, good, 2, 0, PLOKAMYR_LIST_TOO_SHORT);
+    s.x[1] = 0;
+    s.x[2] = UINT64_MAX;
+    expect_walk(&s, good, PLACES, UINT64_MAX, PLOKAMYR_LIST_TOO_SHORT);
+    expect_walk(&s, (struct route){3, 1, 2, 3, 4}, PLACES, 0, PLOKAMYR_LIST_TOO_SHORT);
+    s.x[2] = 3;
+    expect_walk(&s, good, 3, 0, PLOKAMYR_BUDGET_SPENT); /* none executed, so that it changes nothing either */
+}
+
+/* The instruction words of a walk, and the walk as the paper goes through it, a word at a time. */
+static uint32_t walk_word(struct route r, char which) {
+    switch (which) {
+        case 'f': return PFALSE + r.k;
+        case 'w': return 0x25201C00 + (r.size << 22) + (r.m << 16) + (r.n << 5) + r.d;
+        case 'p': return 0x2519C400 + (r.size << 22) + (r.d << 5) + r.k;
+        default: return 0x252C8800 + (r.size << 22) + (r.d << 5) + r.n;
+    }
+}
+
+static uint64_t true_element(const struct plokamyr_predicate *p, uint32_t size) {
+    uint64_t bit = 0;
+    while (!(p->words[bit / 64] >> (bit % 64) & 1)) bit++;
+    return bit >> size;
+}
+
+static struct plokamyr_walked plain_walk(struct plokamyr_state s, struct route r, uint64_t *places, uint64_t budget) {
+    uint64_t count = 0;
+    char next = 'f';
+    while (next != 'e' && count < budget) {
+        uint32_t word = walk_word(r, next);
+        s = plokamyr_run(s, &word, 1).state;
+        count++;
+        if (next == 'w') {
+            next = s.flags.z ? 'e' : 'p';
+        } else if (next == 'p' && !s.flags.z) {
+            *places++ = s.x[r.n] + true_element(&s.p[r.k], r.size);
+        } else {
+            next = next == 'p' ? 'i' : 'w';
+        }
+    }
+    return (struct plokamyr_walked){next == 'e' ? PLOKAMYR_DONE : PLOKAMYR_BUDGET_SPENT, count, s};
+}
+
+static void check_budget(const struct plokamyr_state *s, struct route r, size_t places, uint64_t budget) {
+    static uint64_t plain_list[PLACES];
+    FILL(plain_list);
+    struct plokamyr_walked plain = plain_walk(*s, r, plain_list, budget);
+    struct plokamyr_walked walked = go(s, r, places, budget);
+    CHECK(walked.reply == plain.reply);
+    CHECK(walked.count == plain.count);
+    CHECK(same_state(&walked.state, &plain.state));
+    CHECK(memcmp(list.value, plain_list, sizeof plain_list) == 0);
+    CHECK_GUARDS(list);
+}
+
+/* Every budget, for a full vector and part of a second. */
+static void walk_budgets(void) {
+    for (int i = 0; i < 5; i++) {
+        for (uint32_t size = 0; size < 4; size++) {
+            struct plokamyr_state s = walker(lengths[i]);
+            uint64_t elements = lengths[i] / 8 >> size, positions = elements + 1;
+            s.x[2] = s.x[1] + positions;
+            struct route r = {size, 1, 2, 15, 0};
+            for (uint64_t budget = 0; budget <= positions + 3 * 2 + 3; budget++) check_budget(&s, r, positions, budget);
+            check_budget(&s, r, PLACES, UINT64_MAX);
+        }
+    }
+}
+
+/* No position: a null list will do, also with register 31 as the limit. */
+static void walk_nowhere(void) {
+    struct plokamyr_state s = walker(256);
+    for (uint64_t budget = 0; budget < 4; budget++) {
+        check_budget(&s, (struct route){0, 2, 1, 3, 4}, 0, budget);
+        check_budget(&s, (struct route){0, 1, 31, 3, 4}, 0, budget);
+    }
+    s.x[1] = UINT64_MAX - 2;
+    s.x[2] = UINT64_MAX;
+    check_budget(&s, good, 2, 100);
+    check_budget(&s, (struct route){3, 1, 2, 3, 4}, 2, 100);
+}
+
+/* ---- read */
+
+static uint8_t image[PLOKAMYR_IMAGE_MAX + 1];
+static GUARDED(uint32_t value[8]) words_read;
+static const uint32_t three[3] = {PFALSE, WHILEGE, 0xFFFFFFFF};
+
+static void expect_read(const uint8_t *bytes, size_t length, size_t places, enum plokamyr_reply reply) {
+    static const struct plokamyr_state none = {.vl = 128};
+    FILL(words_read);
+    poison_stack();
+    struct plokamyr_reading reading = plokamyr_read(bytes, length, places ? words_read.value : NULL, places);
+    CHECK(reading.reply == reply);
+    CHECK(reading.count == 0);
+    CHECK(same_state(&reading.state, &none));
+    CHECK(is_filled(&words_read, sizeof words_read));
+}
+
+static size_t good_image(uint64_t vl) {
+    struct plokamyr_written written = plokamyr_write(sample(vl), three, 3, image, sizeof image);
+    CHECK(written.reply == PLOKAMYR_DONE);
+    return written.length;
+}
+
+/* An image with one byte changed is refused with 6; cut right after the section's content, too; cut within it, with 5. */
+static void expect_wrong(size_t length, size_t at, uint8_t byte, size_t section_end) {
+    uint8_t kept = image[at];
+    image[at] = byte;
+    expect_read(image, length, 8, PLOKAMYR_NOT_ALLOWED);
+    expect_read(image, length + 1, 0, PLOKAMYR_NOT_ALLOWED);
+    expect_read(image, section_end, 8, PLOKAMYR_NOT_ALLOWED);
+    expect_read(image, section_end - 1, 8, PLOKAMYR_IMAGE_CUT);
+    image[at] = kept;
+}
+
+static void read_wrong(uint64_t vl) {
+    size_t length = good_image(vl);
+    size_t x = 4 + 3, p = x + 4 + 31 * 8, flags = p + 4 + 16 * vl / 64, words = flags + 4 + 4;
+    const size_t counts[4] = {0, x, p, flags};
+    for (int i = 0; i < 4; i++) {
+        for (size_t k = 0; k < 4; k++) expect_wrong(length, counts[i] + k, image[counts[i] + k] ^ 0x80, counts[i] + 4);
+    }
+    static const uint8_t lengths_wrong[7] = {0, 3, 5, 15, 17, 32, 255};
+    for (int i = 0; i < 7; i++) expect_wrong(length, 4, lengths_wrong[i], 7);
+    expect_wrong(length, 5, 4, 7);
+    expect_wrong(length, 5, 255, 7);
+    expect_wrong(length, 6, 2, 7);
+    expect_wrong(length, 6, 255, 7);
+    for (size_t i = 0; i < 4; i++) {
+        expect_wrong(length, flags + 4 + i, 2, flags + 8);
+        expect_wrong(length, flags + 4 + i, 255, flags + 8);
+    }
+    expect_wrong(length, words + 1, 0x10, words + 4); /* 4,099 words */
+    expect_wrong(length, words + 2, 1, words + 4);
+    expect_wrong(length, words + 3, 0xFF, words + 4);
+}
+
+static void read_edges(uint64_t vl) {
+    size_t length = good_image(vl);
+    expect_read(NULL, 0, 0, PLOKAMYR_IMAGE_CUT);
+    expect_read(image, 0, 8, PLOKAMYR_IMAGE_CUT);
+    for (size_t i = 0; i < length; i++) expect_read(image, i, 8, PLOKAMYR_IMAGE_CUT);
+    expect_read(image, length + 1, 8, PLOKAMYR_TRAILING_BYTES);
+    expect_read(image, length + 1, 0, PLOKAMYR_TRAILING_BYTES);
+    expect_read(image, sizeof image, 2, PLOKAMYR_TRAILING_BYTES);
+    expect_read(image, length, 0, PLOKAMYR_BUFFER_TOO_SMALL);
+    expect_read(image, length, 2, PLOKAMYR_BUFFER_TOO_SMALL);
+    size_t alone = plokamyr_write(sample(vl), NULL, 0, image, sizeof image).length;
+    struct plokamyr_state s = sample(vl);
+    struct plokamyr_reading reading = plokamyr_read(image, alone, NULL, 0);
+    CHECK(reading.reply == PLOKAMYR_DONE);
+    CHECK(reading.count == 0);
+    CHECK(same_state(&reading.state, &s));
+}
+
+/* ---- write */
+
+static uint32_t many[PLOKAMYR_WORDS_MAX + 1];
+static GUARDED(uint8_t value[PLOKAMYR_IMAGE_MAX]) written_image;
+
+static void expect_write(const struct plokamyr_state *s, size_t count, size_t room, enum plokamyr_reply reply) {
+    struct plokamyr_state given = *s;
+    FILL(written_image);
+    poison_stack();
+    struct plokamyr_written written = plokamyr_write(given, count ? many : NULL, count, room ? written_image.value : NULL, room);
+    CHECK(written.reply == reply);
+    CHECK(written.length == 0);
+    CHECK(is_filled(&written_image, sizeof written_image));
+    CHECK(same_state(&given, s));
+}
+
+static void write_refusals(void) {
+    for (int i = 0; i < ILLEGAL; i++) {
+        struct plokamyr_state s = illegal(i);
+        expect_write(&s, 0, 0, PLOKAMYR_ILLEGAL_STATE);
+        expect_write(&s, 0, PLOKAMYR_IMAGE_MAX, PLOKAMYR_ILLEGAL_STATE);
+        expect_write(&s, PLOKAMYR_WORDS_MAX + 1, 0, PLOKAMYR_ILLEGAL_STATE);
+    }
+    for (int i = 0; i < 5; i++) {
+        struct plokamyr_state s = sample(lengths[i]);
+        size_t least = 4 + 3 + 4 + 31 * 8 + 4 + 16 * lengths[i] / 64 + 4 + 4 + 4;
+        expect_write(&s, PLOKAMYR_WORDS_MAX + 1, 0, PLOKAMYR_NOT_ALLOWED);
+        expect_write(&s, PLOKAMYR_WORDS_MAX + 1, PLOKAMYR_IMAGE_MAX, PLOKAMYR_NOT_ALLOWED);
+        expect_write(&s, 0, 0, PLOKAMYR_BUFFER_TOO_SMALL);
+        expect_write(&s, 0, least - 1, PLOKAMYR_BUFFER_TOO_SMALL);
+        expect_write(&s, 5, least + 19, PLOKAMYR_BUFFER_TOO_SMALL);
+        expect_write(&s, PLOKAMYR_WORDS_MAX, least + 4 * PLOKAMYR_WORDS_MAX - 1, PLOKAMYR_BUFFER_TOO_SMALL);
+        struct plokamyr_written written = plokamyr_write(s, NULL, 0, written_image.value, least);
+        CHECK(written.reply == PLOKAMYR_DONE);
+        CHECK(written.length == least);
+        CHECK(is_filled(written_image.value + least, sizeof written_image.value - least));
+    }
+}
+
+/* ---- text */
+
+static GUARDED(uint8_t value[PLOKAMYR_TEXT_MAX]) text;
+
+/* The lines that fit, one after the other; a line that has no room is left out. */
+static void expect_text(const uint8_t *bytes, size_t length, size_t room, const char *const *lines, size_t count) {
+    static uint8_t expected[PLOKAMYR_TEXT_MAX];
+    size_t at = 0;
+    for (size_t i = 0; i < count; i++) {
+        size_t more = strlen(lines[i]);
+        if (more > room - at) continue;
+        memcpy(expected + at, lines[i], more);
+        at += more;
+    }
+    FILL(text);
+    CHECK(plokamyr_text(bytes, length, room ? text.value : NULL, room) == at);
+    CHECK(memcmp(text.value, expected, at) == 0);
+    CHECK(is_filled(text.value + at, sizeof text.value - at));
+    CHECK_GUARDS(text);
+}
+
+static void text_edges(void) {
+    static const char *const refused[4] = {"image 5\n", "image 6\n", "image 7\n", "image 5\n"};
+    static const char *const lines[4] = {"0 25a21c20 0 1010\n", "1 2519c401 0 1010\n", "2 00000000 1 1010\n", "end 2\n"};
+    static const uint32_t words[3] = {0x25A21C20, 0x2519C401, 0};
+    struct plokamyr_state s = {.vl = 128, .level = 1, .access = true};
+    s.x[1] = 10;
+    s.x[2] = 13;
+    size_t length = plokamyr_write(s, words, 3, image, sizeof image).length;
+    image[length] = 0;
+    for (size_t room = 0; room < 70; room++) {
+        expect_text(NULL, 0, room, refused, 1);
+        expect_text(image + 1, length, room, refused + 1, 1);
+        expect_text(image, length + 1, room, refused + 2, 1);
+        expect_text(image, length - 1, room, refused + 3, 1);
+        expect_text(image, length, room, lines, 4);
+    }
+    expect_text(image, length, PLOKAMYR_TEXT_MAX, lines, 4);
+}
+
+/* The longest text: 4,096 words done. PLOKAMYR_TEXT_MAX is no less, whatever it is. */
+static void longest_text(void) {
+    static const size_t longest = 10 * 18 + 90 * 19 + 900 * 20 + 3096 * 21 + 9;
+    for (size_t i = 0; i < PLOKAMYR_WORDS_MAX; i++) many[i] = PFALSE;
+    size_t length = plokamyr_write(sample(2048), many, PLOKAMYR_WORDS_MAX, image, sizeof image).length;
+    CHECK(length == PLOKAMYR_IMAGE_MAX);
+    CHECK(longest <= PLOKAMYR_TEXT_MAX);
+    FILL(text);
+    CHECK(plokamyr_text(image, length, text.value, PLOKAMYR_TEXT_MAX) == longest);
+    CHECK(memcmp(text.value + longest - 9, "end 4096\n", 9) == 0);
+    CHECK(is_filled(text.value + longest, PLOKAMYR_TEXT_MAX - longest));
+    CHECK_GUARDS(text);
+}
+
+/* ---- words */
+
+/* The bits of each field; the places after them have none, so that 0 alone is allowed there. */
+static const uint8_t field_bits[11][PLOKAMYR_ROW - 1] = {
+    [PLOKAMYR_WHILE_ONE] = {2, 5, 1, 1, 1, 5, 1, 4},
+    [PLOKAMYR_WHILE_PAIR] = {2, 5, 1, 1, 5, 3, 1},
+    [PLOKAMYR_WHILE_COUNTER] = {2, 5, 1, 1, 1, 5, 1, 3},
+    [PLOKAMYR_SATURATING] = {2, 1, 1, 1, 4, 5},
+    [PLOKAMYR_INC_DEC] = {2, 1, 4, 5},
+    [PLOKAMYR_CNTP] = {2, 4, 4, 5},
+    [PLOKAMYR_CNTP_COUNTER] = {2, 1, 4, 5},
+    [PLOKAMYR_PNEXT] = {2, 4, 4},
+    [PLOKAMYR_PFIRST] = {4, 4},
+    [PLOKAMYR_PTEST] = {4, 4},
+    [PLOKAMYR_PFALSE] = {4},
+};
+
+static void expect_encode(const uint8_t row[PLOKAMYR_ROW], enum plokamyr_reply reply) {
+    static GUARDED(uint32_t value) word;
+    static GUARDED(uint8_t value[PLOKAMYR_ROW]) back;
+    uint8_t given[PLOKAMYR_ROW];
+    memcpy(given, row, PLOKAMYR_ROW);
+    FILL(word);
+    FILL(back);
+    CHECK(plokamyr_encode(row, &word.value) == reply);
+    CHECK(memcmp(given, row, PLOKAMYR_ROW) == 0);
+    CHECK_GUARDS(word);
+    if (reply != PLOKAMYR_DONE) {
+        CHECK(is_filled(&word.value, 4));
+        return;
+    }
+    CHECK(plokamyr_decode(word.value, back.value) == PLOKAMYR_DONE);
+    CHECK(memcmp(back.value, row, PLOKAMYR_ROW) == 0);
+    CHECK_GUARDS(back);
+}
+
+/* Each field of each form at its largest, then past it. */
+static void encode_edges(uint8_t form) {
+    uint8_t row[PLOKAMYR_ROW] = {form};
+    expect_encode(row, PLOKAMYR_DONE);
+    for (int i = 0; i < PLOKAMYR_ROW - 1; i++) {
+        uint8_t most = (uint8_t)((1u << field_bits[form][i]) - 1);
+        row[i + 1] = most;
+        expect_encode(row, PLOKAMYR_DONE);
+        row[i + 1] = most + 1;
+        expect_encode(row, PLOKAMYR_FIELD_PAST_RANGE);
+        row[i + 1] = 255;
+        expect_encode(row, PLOKAMYR_FIELD_PAST_RANGE);
+        row[i + 1] = most;
+    }
+}
+
+static void expect_decode(uint32_t word, enum plokamyr_reply reply, const uint8_t row[PLOKAMYR_ROW]) {
+    static GUARDED(uint8_t value[PLOKAMYR_ROW]) back;
+    FILL(back);
+    CHECK(plokamyr_decode(word, back.value) == reply);
+    CHECK(reply == PLOKAMYR_DONE ? memcmp(back.value, row, PLOKAMYR_ROW) == 0 : is_filled(back.value, PLOKAMYR_ROW));
+    CHECK_GUARDS(back);
+}
+
+static void each_form(void) {
+    static const struct {
+        uint32_t word;
+        uint8_t row[PLOKAMYR_ROW];
+    } known[12] = {
+        {0x25A21C20, {PLOKAMYR_WHILE_ONE, 2, 2, 1, 1, 1, 1, 0, 0}},     /* WHILELO p0.s, x1, x2 */
+        {0x25E55893, {PLOKAMYR_WHILE_PAIR, 3, 5, 1, 0, 4, 1, 1}},       /* WHILEHI p2.d and p3.d, x4, x5 */
+        {0x25A24438, {PLOKAMYR_WHILE_COUNTER, 2, 2, 0, 0, 1, 1, 1, 0}}, /* WHILELE pn8.s, x1, x2, two vectors */
+        {0x252A8C23, {PLOKAMYR_SATURATING, 0, 1, 0, 1, 1, 3}},          /* SQDECP x3, p1.b */
+        {0x252C8843, {PLOKAMYR_INC_DEC, 0, 0, 2, 3}},                   /* INCP x3, p2.b */
+        {0x252D8843, {PLOKAMYR_INC_DEC, 0, 1, 2, 3}},                   /* DECP x3, p2.b */
+        {0x252094C7, {PLOKAMYR_CNTP, 0, 5, 6, 7}},                      /* CNTP x7, p5, p6.b */
+        {0x2520872A, {PLOKAMYR_CNTP_COUNTER, 0, 1, 9, 10}},             /* CNTP x10, pn9.b, four vectors */
+        {0x2519C401, {PLOKAMYR_PNEXT, 0, 0, 1}},                        /* PNEXT p1.b, p0, p1.b */
+        {0x2558C064, {PLOKAMYR_PFIRST, 3, 4}},                          /* PFIRST p4.b, p3, p4.b */
+        {0x2550C440, {PLOKAMYR_PTEST, 1, 2}},                           /* PTEST p1, p2.b */
+        {0x2518E403, {PLOKAMYR_PFALSE, 3}},                             /* PFALSE p3.b */
+    };
+    for (int i = 0; i < 12; i++) expect_decode(known[i].word, PLOKAMYR_DONE, known[i].row);
+}
+
+static void words_edges(void) {
+    each_form();
+    for (uint8_t form = 0; form < 11; form++) encode_edges(form);
+    for (unsigned form = 11; form < 256; form++) expect_encode((uint8_t[PLOKAMYR_ROW]){(uint8_t)form}, PLOKAMYR_FIELD_PAST_RANGE);
+    for (int i = 0; i < 6; i++) expect_decode(foreign[i], PLOKAMYR_UNKNOWN_WORD, NULL);
+}
+
+int main(void) {
+    step_refusals();
+    run_refusals();
+    run_stops();
+    walk_registers();
+    walk_refusals();
+    walk_budgets();
+    walk_nowhere();
+    for (int i = 0; i < 5; i++) {
+        read_edges(lengths[i]);
+        read_wrong(lengths[i]);
+    }
+    write_refusals();
+    text_edges();
+    longest_text();
+    words_edges();
+    return finish("edges");
+}

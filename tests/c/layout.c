@@ -1,0 +1,256 @@
+/* The structs lie in memory as the library reads and writes them. */
+#include "check.h"
+
+static void sizes(void) {
+    CHECK(sizeof(enum plokamyr_reply) == 4);
+    CHECK(sizeof(struct plokamyr_predicate) == 32);
+    CHECK(sizeof(struct plokamyr_flags) == 4);
+    CHECK(sizeof(struct plokamyr_state) == 776);
+    CHECK(sizeof(struct plokamyr_ran) == 792);
+    CHECK(sizeof(struct plokamyr_walked) == 792);
+    CHECK(sizeof(struct plokamyr_reading) == 792);
+    CHECK(sizeof(struct plokamyr_written) == 16);
+}
+
+static void offsets(void) {
+    CHECK(offsetof(struct plokamyr_predicate, words) == 0);
+    CHECK(offsetof(struct plokamyr_flags, n) == 0);
+    CHECK(offsetof(struct plokamyr_flags, z) == 1);
+    CHECK(offsetof(struct plokamyr_flags, c) == 2);
+    CHECK(offsetof(struct plokamyr_flags, v) == 3);
+    CHECK(offsetof(struct plokamyr_state, vl) == 0);
+    CHECK(offsetof(struct plokamyr_state, level) == 8);
+    CHECK(offsetof(struct plokamyr_state, access) == 9);
+    CHECK(offsetof(struct plokamyr_state, flags) == 10);
+    CHECK(offsetof(struct plokamyr_state, x) == 16);
+    CHECK(offsetof(struct plokamyr_state, p) == 264);
+    CHECK(offsetof(struct plokamyr_ran, reply) == 0);
+    CHECK(offsetof(struct plokamyr_ran, done) == 8);
+    CHECK(offsetof(struct plokamyr_ran, state) == 16);
+    CHECK(offsetof(struct plokamyr_walked, reply) == 0);
+    CHECK(offsetof(struct plokamyr_walked, count) == 8);
+    CHECK(offsetof(struct plokamyr_walked, state) == 16);
+    CHECK(offsetof(struct plokamyr_reading, reply) == 0);
+    CHECK(offsetof(struct plokamyr_reading, count) == 8);
+    CHECK(offsetof(struct plokamyr_reading, state) == 16);
+    CHECK(offsetof(struct plokamyr_written, reply) == 0);
+    CHECK(offsetof(struct plokamyr_written, length) == 8);
+}
+
+/* ---- the image, from the fields by name */
+
+static size_t put(uint8_t *to, size_t at, uint64_t value, size_t bytes) {
+    for (size_t i = 0; i < bytes; i++) to[at + i] = (uint8_t)(value >> (8 * i));
+    return at + bytes;
+}
+
+static size_t put_predicates(uint8_t *to, size_t at, const struct plokamyr_state *s) {
+    at = put(to, at, 16, 4);
+    for (size_t i = 0; i < 16; i++) {
+        for (size_t k = 0; k < s->vl / 64; k++) at = put(to, at, s->p[i].words[k / 8] >> (8 * (k % 8)), 1);
+    }
+    return at;
+}
+
+static size_t image_of(const struct plokamyr_state *s, const uint32_t *words, size_t count, uint8_t *to) {
+    size_t at = put(to, 0, 3, 4);
+    at = put(to, at, s->vl / 128, 1);
+    at = put(to, at, s->level, 1);
+    at = put(to, at, s->access ? 1 : 0, 1);
+    at = put(to, at, 31, 4);
+    for (size_t i = 0; i < 31; i++) at = put(to, at, s->x[i], 8);
+    at = put_predicates(to, at, s);
+    at = put(to, at, 4, 4);
+    at = put(to, at, s->flags.n ? 1 : 0, 1);
+    at = put(to, at, s->flags.z ? 1 : 0, 1);
+    at = put(to, at, s->flags.c ? 1 : 0, 1);
+    at = put(to, at, s->flags.v ? 1 : 0, 1);
+    at = put(to, at, count, 4);
+    for (size_t i = 0; i < count; i++) at = put(to, at, words[i], 4);
+    return at;
+}
+
+/* ---- structs handed back
+ *
+ * On x86-64 Linux the place for a large one is a hidden first parameter, and the answer is its address. A C compiler names a place of
+ * its own there and copies; these types let us name one that has guards. A plokamyr_written is small and comes in registers. */
+
+typedef struct plokamyr_ran *run_into(struct plokamyr_ran *place, struct plokamyr_state, const uint32_t *, size_t);
+typedef struct plokamyr_walked *walk_into(struct plokamyr_walked *place, struct plokamyr_state, uint32_t, uint32_t, uint32_t, uint32_t, uint32_t,
+                                          uint64_t *, size_t, uint64_t);
+typedef struct plokamyr_reading *read_into(struct plokamyr_reading *place, const uint8_t *, size_t, uint32_t *, size_t);
+
+/* volatile, so that no compiler sees through it */
+static run_into *volatile run_in_place = (run_into *)(void (*)(void))plokamyr_run;
+static walk_into *volatile walk_in_place = (walk_into *)(void (*)(void))plokamyr_walk;
+static read_into *volatile read_in_place = (read_into *)(void (*)(void))plokamyr_read;
+
+static void check_fields(const struct plokamyr_state *a, const struct plokamyr_state *b) {
+    CHECK(a->vl == b->vl);
+    CHECK(a->level == b->level);
+    CHECK(a->access == b->access);
+    CHECK(a->flags.n == b->flags.n);
+    CHECK(a->flags.z == b->flags.z);
+    CHECK(a->flags.c == b->flags.c);
+    CHECK(a->flags.v == b->flags.v);
+    for (int i = 0; i < 31; i++) CHECK(a->x[i] == b->x[i]);
+    for (int i = 0; i < 16; i++) {
+        for (int k = 0; k < 4; k++) CHECK(a->p[i].words[k] == b->p[i].words[k]);
+    }
+}
+
+static void check_ran(const struct plokamyr_ran *ran, const struct plokamyr_state *after) {
+    CHECK(ran->reply == PLOKAMYR_UNKNOWN_WORD);
+    CHECK(ran->done == 3);
+    check_fields(&ran->state, after);
+}
+
+static void ran_fields(uint64_t vl) {
+    static const uint32_t words[4] = {0x2518E403, 0x2518E405, 0x2518E40F, 0}; /* PFALSE p3, p5, p15 */
+    static GUARDED(struct plokamyr_ran value) ran;
+    struct plokamyr_state s = sample(vl), after = s;
+    memset(&after.p[3], 0, sizeof after.p[3]);
+    memset(&after.p[5], 0, sizeof after.p[5]);
+    memset(&after.p[15], 0, sizeof after.p[15]);
+    FILL(ran);
+    poison_stack();
+    CHECK(run_in_place(&ran.value, s, words, 4) == &ran.value);
+    CHECK_GUARDS(ran);
+    check_ran(&ran.value, &after);
+    ran.value = plokamyr_run(s, words, 4);
+    check_ran(&ran.value, &after);
+}
+
+static void check_walked(const struct plokamyr_walked *walked, const struct plokamyr_state *after) {
+    CHECK(walked->reply == PLOKAMYR_DONE);
+    CHECK(walked->count == 2 + 3 + 2);
+    check_fields(&walked->state, after);
+}
+
+static void walked_fields(uint64_t vl) {
+    static GUARDED(struct plokamyr_walked value) walked;
+    static GUARDED(uint64_t value[4]) list;
+    struct plokamyr_state s = sample(vl);
+    s.x[20] = 0x1122334455667788;
+    s.x[30] = s.x[20] + 2;
+    struct plokamyr_state after = s;
+    after.x[20] = s.x[30];
+    memset(&after.p[9], 0, sizeof after.p[9]);
+    memset(&after.p[14], 0, sizeof after.p[14]);
+    after.flags = (struct plokamyr_flags){.n = false, .z = true, .c = true, .v = false};
+    FILL(walked);
+    FILL(list);
+    poison_stack();
+    CHECK(walk_in_place(&walked.value, s, 3, 20, 30, 9, 14, list.value, 4, 0x100000007) == &walked.value);
+    CHECK_GUARDS(walked);
+    check_walked(&walked.value, &after);
+    walked.value = plokamyr_walk(s, 3, 20, 30, 9, 14, list.value, 4, 0x100000007);
+    check_walked(&walked.value, &after);
+    CHECK(list.value[0] == s.x[20] && list.value[1] == s.x[20] + 1);
+    CHECK(is_filled(list.value + 2, 16));
+    CHECK_GUARDS(list);
+}
+
+/* ---- the library writes the image of the fields, and reads it back */
+
+static uint8_t expected[PLOKAMYR_IMAGE_MAX];
+static GUARDED(uint8_t value[PLOKAMYR_IMAGE_MAX]) image;
+static GUARDED(struct plokamyr_written value) written;
+static GUARDED(struct plokamyr_reading value) reading;
+static GUARDED(uint32_t value[PLOKAMYR_WORDS_MAX]) back;
+
+static void check_write(struct plokamyr_state s, const uint32_t *words, size_t count) {
+    struct plokamyr_state before = s;
+    size_t length = image_of(&s, words, count, expected);
+    FILL(image);
+    FILL(written);
+    poison_stack();
+    written.value = plokamyr_write(s, words, count, image.value, sizeof image.value);
+    CHECK(written.value.reply == PLOKAMYR_DONE);
+    CHECK(written.value.length == length);
+    for (size_t i = 0; i < length; i++) CHECK(image.value[i] == expected[i]);
+    CHECK(is_filled(image.value + length, sizeof image.value - length));
+    CHECK(same_state(&s, &before));
+    CHECK_GUARDS(image);
+    CHECK_GUARDS(written);
+}
+
+static void check_reading(const struct plokamyr_state *s, const uint32_t *words, size_t count) {
+    CHECK(reading.value.reply == PLOKAMYR_DONE);
+    CHECK(reading.value.count == count);
+    check_fields(&reading.value.state, s);
+    for (size_t i = 0; i < count; i++) CHECK(back.value[i] == words[i]);
+    CHECK(is_filled(back.value + count, sizeof back.value - count * sizeof *back.value));
+    CHECK_GUARDS(back);
+}
+
+static void check_read(const struct plokamyr_state *s, const uint32_t *words, size_t count) {
+    size_t length = image_of(s, words, count, expected);
+    FILL(reading);
+    FILL(back);
+    poison_stack();
+    CHECK(read_in_place(&reading.value, expected, length, back.value, PLOKAMYR_WORDS_MAX) == &reading.value);
+    CHECK_GUARDS(reading);
+    check_reading(s, words, count);
+    FILL(back);
+    reading.value = plokamyr_read(expected, length, back.value, PLOKAMYR_WORDS_MAX);
+    check_reading(s, words, count);
+}
+
+static uint32_t most[PLOKAMYR_WORDS_MAX];
+
+static void images(void) {
+    for (size_t i = 0; i < PLOKAMYR_WORDS_MAX; i++) most[i] = (uint32_t)mixed(1000 + i);
+    for (int i = 0; i < 5; i++) {
+        struct plokamyr_state s = sample(lengths[i]);
+        static const size_t counts[3] = {0, 3, PLOKAMYR_WORDS_MAX};
+        for (int k = 0; k < 3; k++) {
+            check_write(s, most, counts[k]);
+            check_read(&s, most, counts[k]);
+        }
+    }
+    struct plokamyr_state s = sample(2048);
+    CHECK(image_of(&s, most, PLOKAMYR_WORDS_MAX, expected) == PLOKAMYR_IMAGE_MAX);
+}
+
+/* Every value of the small fields: none stands in another's place. */
+static void small_fields(void) {
+    for (unsigned i = 0; i < 4 * 2 * 16; i++) {
+        struct plokamyr_state s = sample(128);
+        s.level = i & 3;
+        s.access = i >> 2 & 1;
+        s.flags.n = i >> 3 & 1;
+        s.flags.z = i >> 4 & 1;
+        s.flags.c = i >> 5 & 1;
+        s.flags.v = i >> 6 & 1;
+        check_write(s, most, 1);
+        check_read(&s, most, 1);
+    }
+}
+
+/* ---- the state that is stepped where it stands */
+
+static void stepped_fields(uint64_t vl) {
+    static GUARDED(struct plokamyr_state value) box;
+    FILL(box);
+    box.value = sample(vl);
+    struct plokamyr_state after = box.value;
+    memset(&after.p[7], 0, sizeof after.p[7]);
+    poison_stack();
+    CHECK(plokamyr_step(&box.value, 0x2518E407) == PLOKAMYR_DONE); /* PFALSE p7 */
+    check_fields(&box.value, &after);
+    CHECK_GUARDS(box);
+}
+
+int main(void) {
+    sizes();
+    offsets();
+    images();
+    small_fields();
+    for (int i = 0; i < 5; i++) {
+        ran_fields(lengths[i]);
+        walked_fields(lengths[i]);
+        stepped_fields(lengths[i]);
+    }
+    return finish("layout");
+}
