@@ -4,6 +4,7 @@ ghost use mathlib.Core.Path.{_≡_};
 ghost use Prim.Native.Nat.{_≤_};
 ghost use lib.ListN.{length};
 ghost use Rattle.registers.specs.Legal.{legal};
+ghost use Rattle.image.specs.Reading.{listAfter};
 ghost use Rattle.transcript.specs.Transcript.{linesOf, transcriptOf, afterAll, placedAll};
 use registers::State;
 
@@ -11,6 +12,7 @@ use registers::State;
 pub fn transcript(image: &[u8], words: &mut [u32], out: &mut [u8]) -> usize
     ensures { λ r. ⌜ r ≡ afterAll (transcriptOf (length (now (words .entry))) (now (image .entry))) 0 (length (now (out .entry))) ⌝ }
     ensures { λ r. ⌜ now (out .exit) ≡ placedAll (transcriptOf (length (now (words .entry))) (now (image .entry))) 0 (now (out .entry)) ⌝ }
+    ensures { λ r. ⌜ now (words .exit) ≡ listAfter (now (image .entry)) (now (words .entry)) ⌝ }
 {
     let reading = image::read(image, words);
     let reply = reading.reply;

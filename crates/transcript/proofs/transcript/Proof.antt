@@ -28,8 +28,9 @@ returns c =
     let l = c .before .before in
     let i = l .before .before .before in
     let a = i .before .before .before .before .before .before .before .before .before .args in
-    refused (a .image .now) (a .words .now) (i .before .before .before .before .read .result) (i .before .before .before .before .read .ensures .0) (a .out .now) _ _ _ _ (i .before .number .ensures) (l .before .before .number2 .ensures) (i .if1 .taken)
-    (l .image-line .ensures .0) (l .image-line .ensures .1)
+    let r = refused (a .image .now) (a .words .now) (i .before .before .before .before .read .result) (i .before .before .before .before .read .ensures .0) (a .out .now) _ _ _ _ (i .before .number .ensures) (l .before .before .number2 .ensures) (i .if1 .taken)
+    (l .image-line .ensures .0) (l .image-line .ensures .1) in
+    (r .0, (r .1, i .before .before .before .before .read .ensures .1))
 
 -- the reading, on the way past its test
 fine : (c : tie.Else1) → Fine (c .before .before .before .before .before .before .before .before .before .args .image .now) (c .before .before .before .before .before .before .before .before .before .args .words .now) (c .before .before .before .before .read .result) (c .before .before .before .before .read .last .1 .0)
@@ -57,7 +58,8 @@ same-length-4 c = search needs
 returns-2 : tie.Need-returns-2
 returns-2 c =
     let w = c .before .before in
-    fine (w .before .before .before .before) .stepped (w .before .before .before .before .before .before .before .before .before .before .before .before .before .args .out .now) _ _ (w .word-lines .ensures .0) (w .word-lines .ensures .1)
+    let r = fine (w .before .before .before .before) .stepped (w .before .before .before .before .before .before .before .before .before .before .before .before .before .args .out .now) _ _ (w .word-lines .ensures .0) (w .word-lines .ensures .1) in
+    (r .0, (r .1, w .before .before .before .before .before .before .before .before .read .ensures .1))
 
 pub transcript-spec : {M : Type 1} → statement M
 transcript-spec =
