@@ -1,0 +1,172 @@
+//! Prints stored vectors, made by the second program alone: records one after the other, little-endian, each with a
+//! kind (1 byte) and the length of the rest (4 bytes). `vectors [seed] > file`; counts go to standard error.
+#![forbid(unsafe_code)]
+
+use compare::random::Random;
+use compare::routes::{route, Bounds};
+use compare::{damage, instructions, states};
+use model::State;
+use std::collections::BTreeMap;
+use std::io::Write;
+
+const INSTRUCTIONS: u64 = 3_000;
+const IMAGES: u64 = 150;
+const WALKS: u64 = 150;
+const LARGEST: usize = 700_000;
+
+const RUN: u8 = 1;
+const IMAGE: u8 = 2;
+const WALK: u8 = 3;
+
+/// The shorter lengths more often, for the size of the file.
+const LENGTHS: [u64; 20] =
+    [128, 128, 128, 128, 128, 128, 128, 128, 128, 256, 256, 256, 256, 256, 256, 512, 512, 1024, 1024, 2048];
+
+fn main() {
+    let seed = std::env::args().nth(1).map_or(1, |seed| seed.parse().expect("the seed is a number"));
+    let mut file = File::default();
+    let mut number = 0;
+    while file.executed < INSTRUCTIONS {
+        run(&mut file, &mut Random::new(seed, u64::from(RUN), number), number);
+        number += 1;
+    }
+    for number in 0..IMAGES {
+        image(&mut file, &mut Random::new(seed, u64::from(IMAGE), number));
+    }
+    for number in 0..WALKS {
+        walk(&mut file, &mut Random::new(seed, u64::from(WALK), number));
+    }
+    file.say_and_check();
+    std::io::stdout().write_all(&file.bytes).expect("standard output takes the file");
+}
+
+/// The file so far, and what stands in it.
+#[derive(Default)]
+struct File {
+    bytes: Vec<u8>,
+    executed: u64,
+    seen: BTreeMap<String, u64>,
+}
+
+impl File {
+    fn record(&mut self, kind: u8, rest: &[u8]) {
+        self.bytes.push(kind);
+        self.bytes.extend((rest.len() as u32).to_le_bytes());
+        self.bytes.extend(rest);
+    }
+
+    fn see(&mut self, what: String) {
+        *self.seen.entry(what).or_default() += 1;
+    }
+
+    fn say_and_check(&self) {
+        for (what, count) in &self.seen {
+            eprintln!("{what}: {count}");
+        }
+        eprintln!("instructions executed in runs: {}; bytes: {}", self.executed, self.bytes.len());
+        for what in expected() {
+            assert!(self.seen.contains_key(&what), "there is none of: {what}");
+        }
+        assert!(self.bytes.len() < LARGEST, "the file is too large");
+    }
+}
+
+/// What a file must hold.
+fn expected() -> Vec<String> {
+    let mut list = Vec::new();
+    for form in instructions::FORMS {
+        list.extend(states::LENGTHS.map(|vl| executed(form, vl)));
+    }
+    list.extend([0, 1, 2, 3].map(|level| format!("runs at level {level}")));
+    list.extend([0, 1, 2, 3].map(|reply| reply_of(RUN, reply)));
+    list.extend([0, 5, 6, 7].map(|reply| reply_of(IMAGE, reply)));
+    list.extend([0, 2, 3, 10, 11, 12].map(|reply| reply_of(WALK, reply)));
+    list
+}
+
+fn executed(form: &str, vl: u64) -> String {
+    format!("executed {form} at {vl}")
+}
+
+fn reply_of(kind: u8, reply: u8) -> String {
+    format!("kind {kind} with reply {reply}")
+}
+
+fn push_image(rest: &mut Vec<u8>, state: &State, words: &[u32]) {
+    let image = damage::image(state, words);
+    rest.extend((image.len() as u32).to_le_bytes());
+    rest.extend(image);
+}
+
+fn run(file: &mut File, random: &mut Random, number: u64) {
+    let vl = random.pick(&LENGTHS);
+    let mut state = states::legal(random, vl);
+    state.level = if number % 10 < 3 { (number % 10) as u8 } else { 3 };
+    let count = if state.access { 1 + random.below(12) } else { 1 + random.below(2) };
+    let count = if state.level == 0 { count.min(2) } else { count };
+    let words: Vec<u32> = (0..count).map(|at| word(random, state.level, 12 * number + at)).collect();
+    for &word in words.iter().rev() {
+        instructions::tie(random, &mut state, word);
+    }
+    let ran = model::run(&state, &words);
+    let mut rest = Vec::new();
+    push_image(&mut rest, &state, &words);
+    rest.push(ran.reply);
+    rest.extend((ran.done as u32).to_le_bytes());
+    push_image(&mut rest, &ran.state, &[]);
+    file.record(RUN, &rest);
+    file.executed += ran.done as u64;
+    file.see(reply_of(RUN, ran.reply));
+    file.see(format!("runs at level {}", state.level));
+    for &word in &words[..ran.done] {
+        let row = model::decode(word).expect("it was executed");
+        file.see(executed(instructions::FORMS[usize::from(row[0])], vl));
+    }
+}
+
+/// The forms in turn, with now and then a word that may be none; below level 3 seldom one that asks for it.
+fn word(random: &mut Random, level: u8, turn: u64) -> u32 {
+    if random.one_in(60) {
+        return instructions::doubtful(random);
+    }
+    let form = (turn % 11) as usize;
+    let asks_three = matches!(form, 1 | 2 | 6);
+    if asks_three && level < 3 && !random.one_in(8) {
+        instructions::word_of(random, 7)
+    } else {
+        instructions::word_of(random, form)
+    }
+}
+
+fn image(file: &mut File, random: &mut Random) {
+    let vl = random.pick(&LENGTHS);
+    let state = states::legal(random, vl);
+    let words: Vec<u32> = (0..random.below(6)).map(|_| instructions::any(random)).collect();
+    let image = damage::image(&state, &words);
+    let image = damage::damaged(&image, damage::any(random, &image, vl));
+    let reply = model::read(&image, &mut [0; 4096]).reply;
+    let mut rest = vec![reply];
+    rest.extend((image.len() as u32).to_le_bytes());
+    rest.extend(image);
+    file.record(IMAGE, &rest);
+    file.see(reply_of(IMAGE, reply));
+}
+
+fn walk(file: &mut File, random: &mut Random) {
+    let vl = random.pick(&LENGTHS);
+    let route = route(random, vl, &Bounds { far: 40, bytes: true });
+    let mut list = vec![u64::MAX; route.places];
+    let (size, n, m, d, k) = (route.size, route.n, route.m, route.d, route.k);
+    let walked = model::walk(&route.state, size, n, m, d, k, &mut list, route.budget);
+    let mut rest = Vec::new();
+    push_image(&mut rest, &route.state, &[]);
+    rest.extend([size, n, m, d, k].map(|number| u8::try_from(number).expect("the bounds ask for bytes")));
+    rest.extend((route.places as u32).to_le_bytes());
+    rest.extend(route.budget.to_le_bytes());
+    rest.push(walked.reply);
+    rest.extend(walked.count.to_le_bytes());
+    push_image(&mut rest, &walked.state, &[]);
+    rest.extend(list.iter().flat_map(|place| place.to_le_bytes()));
+    file.record(WALK, &rest);
+    file.see(reply_of(WALK, walked.reply));
+}

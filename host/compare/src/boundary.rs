@@ -1,0 +1,96 @@
+//! The library's calls, in the second program's types so that answers can be compared as they are.
+//! Rows go past the Rust wrapper, which has no way to say a form that does not exist.
+
+use compare::routes::Route;
+use model::{Flags, Ran, Reading, Row, State, Walked, Written};
+use plokamyr::{Predicate, Reply};
+use std::hint::black_box;
+
+const CANARY: u64 = 0xC0DE_CAFE_F00D_D00D;
+
+/// A state with canary places around it.
+#[repr(C)]
+struct Guarded {
+    before: [u64; 16],
+    state: plokamyr::State,
+    after: [u64; 16],
+}
+
+pub fn step(state: &mut State, word: u32) -> u8 {
+    let mut guarded = Guarded { before: [CANARY; 16], state: to_library(state), after: [CANARY; 16] };
+    let reply = black_box(&mut guarded).state.step(word);
+    let guarded = black_box(&guarded);
+    assert_eq!((guarded.before, guarded.after), ([CANARY; 16], [CANARY; 16]), "the step wrote past the state");
+    *state = from_library(&guarded.state);
+    number(reply)
+}
+
+pub fn run(state: &State, words: &[u32]) -> Ran {
+    let ran = plokamyr::run(&to_library(state), words);
+    Ran { reply: number(ran.reply), done: ran.done, state: from_library(&ran.state) }
+}
+
+pub fn walk(route: &Route, list: &mut [u64]) -> Walked {
+    let Route { state, size, n, m, d, k, budget, .. } = route;
+    let walked = plokamyr::walk(&to_library(state), *size, *n, *m, *d, *k, list, *budget);
+    Walked { reply: number(walked.reply), count: walked.count, state: from_library(&walked.state) }
+}
+
+pub fn read(image: &[u8], words: &mut [u32]) -> Reading {
+    let reading = plokamyr::read(image, words);
+    Reading { reply: number(reading.reply), count: reading.count, state: from_library(&reading.state) }
+}
+
+pub fn write(state: &State, words: &[u32], image: &mut [u8]) -> Written {
+    let written = plokamyr::write(&to_library(state), words, image);
+    Written { reply: number(written.reply), length: written.length }
+}
+
+pub fn text_in(image: &[u8], text: &mut [u8]) -> usize {
+    plokamyr::text_in(image, text)
+}
+
+extern "C" {
+    fn plokamyr_decode(word: u32, row: *mut u8) -> u32;
+    fn plokamyr_encode(row: *const u8, word: *mut u32) -> u32;
+}
+
+#[allow(unsafe_code)]
+pub fn decode(word: u32, row: &mut Row) -> u32 {
+    // SAFETY: the row has the nine places that the library writes.
+    unsafe { plokamyr_decode(word, row.as_mut_ptr()) }
+}
+
+#[allow(unsafe_code)]
+pub fn encode(row: &Row, word: &mut u32) -> u32 {
+    // SAFETY: the row has the nine places that the library reads.
+    unsafe { plokamyr_encode(row.as_ptr(), word) }
+}
+
+fn number(reply: Reply) -> u8 {
+    reply.number() as u8
+}
+
+fn to_library(state: &State) -> plokamyr::State {
+    let Flags { n, z, c, v } = state.flags;
+    plokamyr::State {
+        vl: state.vl,
+        level: state.level,
+        access: state.access,
+        flags: plokamyr::Flags { n, z, c, v },
+        x: state.x,
+        p: state.p.map(|words| Predicate { words }),
+    }
+}
+
+fn from_library(state: &plokamyr::State) -> State {
+    let plokamyr::Flags { n, z, c, v } = state.flags;
+    State {
+        vl: state.vl,
+        level: state.level,
+        access: state.access,
+        flags: Flags { n, z, c, v },
+        x: state.x,
+        p: state.p.map(|predicate| predicate.words),
+    }
+}

@@ -1,0 +1,95 @@
+//! What differs between two answers, field by field, and how inputs are shown.
+
+use crate::lent::Lent;
+use compare::instructions::FORMS;
+use model::State;
+use std::fmt::{Debug, LowerHex, Write};
+
+/// A line for each field that differs.
+#[derive(Default)]
+pub struct Differences(Vec<String>);
+
+/// At most so many places of a list are shown.
+const SHOWN: usize = 20;
+
+impl Differences {
+    pub fn field<T: PartialEq + Debug>(&mut self, name: &str, library: T, second: T) {
+        if library != second {
+            self.0.push(format!("{name}: library {library:?}, second program {second:?}"));
+        }
+    }
+
+    pub fn hex<T: PartialEq + LowerHex>(&mut self, name: &str, library: T, second: T) {
+        if library != second {
+            self.0.push(format!("{name}: library {library:#x}, second program {second:#x}"));
+        }
+    }
+
+    pub fn state(&mut self, library: &State, second: &State) {
+        if library == second {
+            return;
+        }
+        self.field("vl", library.vl, second.vl);
+        self.field("level", library.level, second.level);
+        self.field("access", library.access, second.access);
+        self.field("flags", library.flags, second.flags);
+        for i in 0..31 {
+            self.hex(&format!("x{i}"), library.x[i], second.x[i]);
+        }
+        for i in 0..16 {
+            self.field(&format!("p{i}"), predicate(&library.p[i]), predicate(&second.p[i]));
+        }
+    }
+
+    /// Lent memory, with its canaries.
+    pub fn lent<T: Copy + PartialEq + LowerHex>(&mut self, name: &str, library: &Lent<T>, second: &Lent<T>) {
+        let pairs = library.numbered().zip(second.numbered());
+        let different = pairs.filter(|(ours, theirs)| ours.1 != theirs.1);
+        for ((place, ours), (_, theirs)) in different.take(SHOWN) {
+            self.hex(&format!("{name}[{place}]"), ours, theirs);
+        }
+    }
+
+    pub fn outcome(self) -> Outcome {
+        if self.0.is_empty() {
+            Ok(())
+        } else {
+            Err(self.0)
+        }
+    }
+}
+
+/// The differences, if there are any.
+pub type Outcome = Result<(), Vec<String>>;
+
+fn predicate(words: &[u64; 4]) -> String {
+    words.iter().rev().map(|word| format!("{word:016x}")).collect::<Vec<_>>().join("_")
+}
+
+pub fn show_state(state: &State) -> String {
+    let mut text = format!("vl {} level {} access {} {:?}\n", state.vl, state.level, state.access, state.flags);
+    for (i, x) in state.x.iter().enumerate() {
+        writeln!(text, "x{i} {x:#x}").expect("a string has room");
+    }
+    for (i, words) in state.p.iter().enumerate() {
+        writeln!(text, "p{i} {}", predicate(words)).expect("a string has room");
+    }
+    text
+}
+
+/// The word and its row.
+pub fn show_word(word: u32) -> String {
+    match model::decode(word) {
+        None => format!("word {word:08x}, none of ours\n"),
+        Some(row) => format!("word {word:08x}, {}, row {row:?}\n", FORMS[usize::from(row[0])]),
+    }
+}
+
+pub fn show_words(words: &[u32]) -> String {
+    words.iter().map(|&word| show_word(word)).collect()
+}
+
+pub fn show_bytes(bytes: &[u8]) -> String {
+    let lines = bytes.chunks(32).map(|line| line.iter().map(|byte| format!("{byte:02x}")).collect::<String>() + "\n");
+    format!("{} bytes:\n{}", bytes.len(), lines.collect::<String>())
+}

@@ -1,0 +1,132 @@
+//! Instruction words: of every form, near misses, and any numbers.
+
+use crate::random::Random;
+use model::{encode, Row, State};
+
+pub const FORMS: [&str; 11] = [
+    "WHILE one",
+    "WHILE pair",
+    "WHILE counter",
+    "SQ/UQ INCP/DECP",
+    "INCP/DECP",
+    "CNTP",
+    "CNTP counter",
+    "PNEXT",
+    "PFIRST",
+    "PTEST",
+    "PFALSE",
+];
+
+/// The widths of each form's fields, from the highest bit of the word down.
+pub const WIDTHS: [&[u8]; 11] = [
+    &[2, 5, 1, 1, 1, 5, 1, 4],
+    &[2, 5, 1, 1, 5, 3, 1],
+    &[2, 5, 1, 1, 1, 5, 1, 3],
+    &[2, 1, 1, 1, 4, 5],
+    &[2, 1, 4, 5],
+    &[2, 4, 4, 5],
+    &[2, 1, 4, 5],
+    &[2, 4, 4],
+    &[4, 4],
+    &[4, 4],
+    &[4],
+];
+
+/// A row of the form with every field in range; often with the same register twice, or X31.
+pub fn row(random: &mut Random, form: usize) -> Row {
+    let widths = WIDTHS[form];
+    let mut row = [0; 9];
+    row[0] = form as u8;
+    for (i, &width) in widths.iter().enumerate() {
+        row[1 + i] = random.below(1 << width) as u8;
+    }
+    let (i, j) = (random.index(widths.len()), random.index(widths.len()));
+    if widths[i] >= 4 && widths[j] == widths[i] {
+        row[1 + i] = row[1 + j];
+    }
+    if widths[i] == 5 && random.one_in(4) {
+        row[1 + i] = 31;
+    }
+    row
+}
+
+/// A word of the form.
+pub fn word_of(random: &mut Random, form: usize) -> u32 {
+    let row = row(random, form);
+    encode(&row).unwrap_or_else(|| panic!("the second program refuses to write {row:?}"))
+}
+
+/// A word of any form.
+pub fn accepted(random: &mut Random) -> u32 {
+    let form = random.index(FORMS.len());
+    word_of(random, form)
+}
+
+/// A word that is mostly refused: a near miss, one of 25xxxxxx, or anything.
+pub fn doubtful(random: &mut Random) -> u32 {
+    match random.below(3) {
+        0 => accepted(random) ^ 1 << random.below(32),
+        1 => 0x2500_0000 | random.below(1 << 24) as u32,
+        _ => random.next() as u32,
+    }
+}
+
+pub fn any(random: &mut Random) -> u32 {
+    if random.one_in(5) {
+        doubtful(random)
+    } else {
+        accepted(random)
+    }
+}
+
+/// Often sets a register that the word reads, so that its operands lie as far apart as there are elements or lie around
+/// the ends of its range. The state is legal.
+pub fn tie(random: &mut Random, state: &mut State, word: u32) {
+    if random.one_in(3) {
+        return;
+    }
+    let vl = state.vl;
+    let elements = |size: u8| vl / (8 << size);
+    match model::decode(word) {
+        Some([0, size, rm, sf, _, lt, rn, ..]) => {
+            tie_limit(random, state, elements(size), rn, rm, lt);
+            if sf == 0 {
+                other_high_word(random, state, rm);
+            }
+        }
+        Some([1, size, rm, _, lt, rn, ..]) => tie_limit(random, state, 2 * elements(size), rn, rm, lt),
+        Some([2, size, rm, vl, _, lt, rn, ..]) => tie_limit(random, state, elements(size) << (1 + vl), rn, rm, lt),
+        Some([3, size, _, u, sf, _, rdn, ..]) => tie_end(random, state, elements(size), u, sf, rdn),
+        _ => {}
+    }
+}
+
+/// Sets Xm in the direction in which Xn goes, at most a little farther than the elements reach.
+fn tie_limit(random: &mut Random, state: &mut State, elements: u64, n: u8, m: u8, lt: u8) {
+    let start = state.x.get(usize::from(n)).copied().unwrap_or(0);
+    let distance = random.below(elements + 3).wrapping_sub(1);
+    let Some(limit) = state.x.get_mut(usize::from(m)) else { return };
+    *limit = if lt == 1 { start.wrapping_add(distance) } else { start.wrapping_sub(distance) };
+}
+
+/// Half the time gives Xm any high word.
+fn other_high_word(random: &mut Random, state: &mut State, m: u8) {
+    let high = if random.one_in(2) { random.next() << 32 } else { 0 };
+    if let Some(x) = state.x.get_mut(usize::from(m)) {
+        *x ^= high;
+    }
+}
+
+/// Sets Xdn near an end of the numbers of its width; a low word gets any high word.
+fn tie_end(random: &mut Random, state: &mut State, elements: u64, u: u8, sf: u8, dn: u8) {
+    let near = |random: &mut Random, end| random.near(end, elements / 2 + 1);
+    let value = match (sf, u) {
+        (1, 0) => near(random, 1 << 63),
+        (1, _) => near(random, 0),
+        (_, 0) => random.next() << 32 | u64::from(near(random, 1 << 31) as u32),
+        _ => random.next() << 32 | u64::from(near(random, 0) as u32),
+    };
+    if let Some(x) = state.x.get_mut(usize::from(dn)) {
+        *x = value;
+    }
+}

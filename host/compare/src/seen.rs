@@ -1,0 +1,111 @@
+//! What a kind's cases came to, so that a reader sees that nothing was left out.
+
+use crate::kind::Forms;
+use compare::instructions::FORMS;
+use compare::states::LENGTHS;
+use model::Row;
+
+pub struct Seen {
+    pub cases: u64,
+    replies: [u64; 13],
+    forms: [[u64; 5]; 11],
+    notes: Vec<(&'static str, u64)>,
+}
+
+impl Seen {
+    pub fn new(notes: &[&'static str]) -> Seen {
+        let notes = notes.iter().map(|&name| (name, 0)).collect();
+        Seen { cases: 0, replies: [0; 13], forms: [[0; 5]; 11], notes }
+    }
+
+    pub fn reply(&mut self, reply: u8) {
+        self.replies[usize::from(reply)] += 1;
+    }
+
+    /// An instruction accepted at a length; any of the five where the length plays no part.
+    pub fn form(&mut self, row: &Row, vl: u64) {
+        let length = LENGTHS.iter().position(|&length| length == vl).expect("an accepted state has one of the five");
+        self.forms[usize::from(row[0])][length] += 1;
+    }
+
+    pub fn note(&mut self, name: &'static str) {
+        let note = self.notes.iter_mut().find(|note| note.0 == name).expect("the kind's notes have it");
+        note.1 += 1;
+    }
+
+    pub fn note_if(&mut self, holds: bool, name: &'static str) {
+        if holds {
+            self.note(name);
+        }
+    }
+
+    pub fn say(&self, name: &str) {
+        println!("{name} {}: {}", grouped(self.cases), self.replies_line());
+        let total = |form: usize| self.forms[form].iter().sum::<u64>();
+        if self.forms.iter().flatten().any(|&count| count > 0) {
+            let forms: Vec<String> = (0..11).map(|form| format!("{} {}", FORMS[form], grouped(total(form)))).collect();
+            println!("  forms: {}", forms.join(", "));
+        }
+        let notes: Vec<String> = self.notes.iter().map(|(name, count)| format!("{name} {}", grouped(*count))).collect();
+        if !notes.is_empty() {
+            println!("  among them: {}", notes.join(", "));
+        }
+    }
+
+    fn replies_line(&self) -> String {
+        let seen = self.replies.iter().enumerate().filter(|(_, &count)| count > 0);
+        let parts = seen.map(|(reply, &count)| match reply {
+            0 => format!("accepted {}", grouped(count)),
+            _ => format!("refused {reply}: {}", grouped(count)),
+        });
+        parts.collect::<Vec<_>>().join(", ")
+    }
+
+    /// What should have been seen and was not, or should not have been and was.
+    pub fn missing(&self, replies: &[u8], forms: Forms) -> Vec<String> {
+        let mut missing = Vec::new();
+        for reply in 0..13 {
+            if (self.replies[usize::from(reply)] > 0) != replies.contains(&reply) {
+                missing.push(format!("reply {reply}, or it should not be there"));
+            }
+        }
+        for (form, counts) in self.forms.iter().enumerate() {
+            let total: u64 = counts.iter().sum();
+            if forms == Forms::Each && total == 0 {
+                missing.push(FORMS[form].to_string());
+            }
+            let empty = (0..5).filter(|&length| forms == Forms::EachAtEachLength && counts[length] == 0);
+            missing.extend(empty.map(|length| format!("{} at {}", FORMS[form], LENGTHS[length])));
+        }
+        missing.extend(self.notes.iter().filter(|note| note.1 == 0).map(|note| note.0.to_string()));
+        missing
+    }
+}
+
+/// A number with commas.
+fn grouped(number: u64) -> String {
+    let digits = number.to_string();
+    let groups: Vec<&[u8]> = digits.as_bytes().rchunks(3).rev().collect();
+    String::from_utf8(groups.join(&b',')).expect("digits")
+}
+
+#[cfg(test)]
+mod tests {
+    use super::*;
+
+    #[test]
+    fn what_was_never_seen_is_missing() {
+        let mut seen = Seen::new(&["a note"]);
+        assert_eq!(seen.missing(&[0, 4], Forms::EachAtEachLength).len(), 2 + 55 + 1);
+        seen.reply(0);
+        seen.note("a note");
+        (0..10).for_each(|form| seen.form(&[form, 0, 0, 0, 0, 0, 0, 0, 0], 128));
+        assert_eq!(seen.missing(&[0], Forms::Each), ["PFALSE"]);
+        assert_eq!(seen.missing(&[], Forms::None).len(), 1); // a reply that the kind cannot give
+    }
+
+    #[test]
+    fn numbers_have_commas() {
+        assert_eq!([0, 999, 1000, 2_000_000].map(grouped), ["0", "999", "1,000", "2,000,000"]);
+    }
+}

@@ -1,0 +1,137 @@
+//! Register states: legal ones with values that matter, and illegal ones.
+
+use crate::random::Random;
+use model::{Flags, State};
+
+pub const LENGTHS: [u64; 5] = [128, 256, 512, 1024, 2048];
+
+/// The values around which operands change their meaning.
+const EDGES: [u64; 10] =
+    [0, 1, 255, 1 << 15, 1 << 31, 1 << 32, 0xFFFF_FFFF_8000_0000, 0xFFFF_FFFF_0000_0000, 1 << 63, u64::MAX];
+
+/// None of the five lengths; the later ones are some of the five with a bit far above.
+const BAD_LENGTHS: [u64; 16] =
+    [0, 1, 16, 64, 127, 129, 192, 255, 384, 640, 1920, 2049, 4096, u64::MAX, (1 << 32) + 128, (1 << 63) + 2048];
+
+/// Mostly legal, of level 3, with access.
+pub fn any(random: &mut Random) -> State {
+    let vl = random.pick(&LENGTHS);
+    let mut state = legal(random, vl);
+    if random.one_in(16) {
+        spoil(random, &mut state);
+    }
+    state
+}
+
+/// A legal state of this length.
+pub fn legal(random: &mut Random, vl: u64) -> State {
+    let mut state = State::zero();
+    state.vl = vl;
+    state.level = if random.one_in(4) { random.below(4) as u8 } else { 3 };
+    state.access = !random.one_in(16);
+    let bits = random.next();
+    state.flags = Flags { n: bits & 1 != 0, z: bits & 2 != 0, c: bits & 4 != 0, v: bits & 8 != 0 };
+    let centre = if random.one_in(3) { random.next() } else { random.pick(&EDGES) };
+    for x in &mut state.x {
+        *x = operand(random, centre);
+    }
+    for p in &mut state.p {
+        *p = predicate(random, vl);
+    }
+    state
+}
+
+/// Makes a state illegal in one way; a stray bit needs a length below the largest.
+pub fn spoil(random: &mut Random, state: &mut State) {
+    match random.below(3) {
+        0 => state.vl = random.pick(&BAD_LENGTHS),
+        1 => state.level = random.pick(&[4, 5, 7, 128, 131, 255]),
+        _ => stray_bit(random, state),
+    }
+}
+
+/// Sets a bit at or above PL of one predicate: often the first such bit, or the last.
+fn stray_bit(random: &mut Random, state: &mut State) {
+    let pl = state.vl as usize / 8;
+    if pl >= 256 {
+        state.level = 4;
+        return;
+    }
+    let bit = match random.below(3) {
+        0 => pl,
+        1 => 255,
+        _ => pl + random.index(256 - pl),
+    };
+    state.p[random.index(16)][bit / 64] |= 1 << (bit % 64);
+}
+
+/// Values near each other, so that counts vary; near the edges; small; with other high words; or anything.
+fn operand(random: &mut Random, centre: u64) -> u64 {
+    match random.below(8) {
+        0 => random.next(),
+        1 => {
+            let edge = random.pick(&EDGES);
+            random.near(edge, 2)
+        }
+        2 => random.below(600),
+        3 => random.near(centre, 600),
+        4 => random.near(centre, 60),
+        5 => random.near(centre, 4),
+        6 => random.next() << 32 | u64::from(random.near(centre, 40) as u32),
+        _ => random.near(centre, 40) as i32 as u64,
+    }
+}
+
+fn predicate(random: &mut Random, vl: u64) -> [u64; 4] {
+    let dense = [random.next(), random.next(), random.next(), random.next()];
+    let elements = elements_of_size(random.below(4));
+    let words = match random.below(10) {
+        0 => [0; 4],
+        1 => [u64::MAX; 4],
+        2 => dense,
+        3 => dense.map(|word| word & elements),
+        4 => dense.map(|word| word | elements),
+        5 => dense.map(|word| word & !elements), // only bits that are ignored at that size
+        6 => [elements; 4],
+        7 => few_bits(random, vl),
+        8 => [counter(random, vl), 0, 0, 0],
+        _ => [dense[0] & !0xFFFF | counter(random, vl), dense[1], dense[2], dense[3]],
+    };
+    cut(words, vl)
+}
+
+/// The lowest bits of the elements of a size.
+fn elements_of_size(size: u64) -> u64 {
+    [u64::MAX, 0x5555_5555_5555_5555, 0x1111_1111_1111_1111, 0x0101_0101_0101_0101][size as usize]
+}
+
+fn few_bits(random: &mut Random, vl: u64) -> [u64; 4] {
+    let mut words = [0; 4];
+    for _ in 0..1 + random.below(4) {
+        let bit = random.index(vl as usize / 8);
+        words[bit / 64] |= 1 << (bit % 64);
+    }
+    words
+}
+
+/// Sixteen bits: a count that fits the group, one around its end, or anything.
+fn counter(random: &mut Random, vl: u64) -> u64 {
+    if random.one_in(4) {
+        return random.below(1 << 16);
+    }
+    let size = random.below(4);
+    let group = 4 * vl / (8 << size);
+    let count = if random.one_in(4) { random.near(group, 2) } else { random.below(group + 1) };
+    random.below(2) << 15 | (count << (size + 1) | 1 << size) & 0x7FFF
+}
+
+/// Clears the bits at or above PL.
+fn cut(words: [u64; 4], vl: u64) -> [u64; 4] {
+    let pl = vl / 8;
+    let mut cut = [0; 4];
+    for (i, word) in words.into_iter().enumerate() {
+        let kept = pl.saturating_sub(64 * i as u64).min(64);
+        cut[i] = if kept == 64 { word } else { word & ((1 << kept) - 1) };
+    }
+    cut
+}

@@ -1,0 +1,219 @@
+//! Single steps, and words one after the other.
+
+use crate::boundary;
+use crate::differences::{show_state, show_word, show_words, Differences, Outcome};
+use crate::kind::{Forms, Kind};
+use crate::lent::{word, Lent};
+use crate::seen::Seen;
+use compare::instructions;
+use compare::random::Random;
+use compare::states::{self, LENGTHS};
+use model::{decode, Flags, Ran, Row, State};
+
+pub struct Steps;
+
+const STEPS: u64 = 2_000_000;
+const STEP_KIND: u64 = 11;
+
+impl Kind for Steps {
+    type Input = (State, u32);
+    const NAME: &'static str = "steps";
+    const REPLIES: &'static [u8] = &[0, 1, 2, 3, 4];
+    const FORMS: Forms = Forms::EachAtEachLength;
+    const NOTES: &'static [&'static str] = &[
+        "bad vl",
+        "bad level",
+        "stray bits",
+        "illegal with an unknown word",
+        "WHILE with none",
+        "WHILE with some",
+        "WHILE with all",
+        "WHILE of words under different high ones",
+        "WHILE past the last number",
+        "saturated",
+        "PNEXT found",
+        "PNEXT found none",
+        "CNTP counter above 0",
+        "X31 named",
+        "a register twice",
+    ];
+
+    fn numbers() -> impl Iterator<Item = u64> {
+        0..STEPS
+    }
+
+    fn make(seed: u64, number: u64) -> (State, u32) {
+        let random = &mut Random::new(seed, STEP_KIND, number);
+        let word = instructions::any(random);
+        let vl = random.pick(&LENGTHS);
+        let mut state = states::legal(random, vl);
+        instructions::tie(random, &mut state, word);
+        if random.one_in(16) {
+            states::spoil(random, &mut state);
+        }
+        (state, word)
+    }
+
+    fn show((state, word): &(State, u32)) -> String {
+        show_state(state) + &show_word(*word)
+    }
+
+    fn compare((state, word): &(State, u32), seen: &mut Seen) -> Outcome {
+        let (mut library, mut second) = (state.clone(), state.clone());
+        let reply = boundary::step(&mut library, *word);
+        let second_reply = model::step(&mut second, *word);
+        let mut differences = Differences::default();
+        differences.field("reply", reply, second_reply);
+        differences.state(&library, &second);
+        seen.reply(second_reply);
+        match second_reply {
+            0 => note_accepted(seen, state, &second, &decode(*word).expect("it was accepted")),
+            4 => note_illegal(seen, state, *word),
+            _ => {}
+        }
+        differences.outcome()
+    }
+}
+
+fn note_illegal(seen: &mut Seen, state: &State, word: u32) {
+    let bad_vl = !LENGTHS.contains(&state.vl);
+    seen.note_if(bad_vl, "bad vl");
+    seen.note_if(state.level > 3, "bad level");
+    seen.note_if(!bad_vl && state.level <= 3, "stray bits");
+    seen.note_if(decode(word).is_none(), "illegal with an unknown word");
+}
+
+fn note_accepted(seen: &mut Seen, before: &State, after: &State, row: &Row) {
+    seen.form(row, before.vl);
+    let flags = after.flags;
+    match *row {
+        [0, size, rm, sf, u, lt, rn, eq, _] => note_while(seen, before, flags, [size, rm, sf, u, lt, rn, eq]),
+        [1, size, rm, u, lt, rn, _, eq, _] => note_while(seen, before, flags, [size, rm, 1, u, lt, rn, eq]),
+        [2, size, rm, _, u, lt, rn, eq, _] => note_while(seen, before, flags, [size, rm, 1, u, lt, rn, eq]),
+        [3, size, d, _, sf, pm, rdn, ..] => {
+            let plain = [4, size, d, pm, rdn, 0, 0, 0, 0]; // INCP or DECP of the same
+            let mut other = before.clone();
+            let _ = model::step(&mut other, model::encode(&plain).expect("its fields are in range"));
+            let low = |state: &State| state.x.get(usize::from(rdn)).map_or(0, |x| x << (32 - 32 * u32::from(sf)));
+            seen.note_if(low(after) != low(&other), "saturated");
+        }
+        [7, ..] => seen.note(if flags.z { "PNEXT found none" } else { "PNEXT found" }),
+        [6, _, _, _, rd, ..] if rd < 31 => seen.note_if(after.x[usize::from(rd)] > 0, "CNTP counter above 0"),
+        _ => {}
+    }
+    note_registers(seen, row);
+}
+
+fn note_while(seen: &mut Seen, before: &State, flags: Flags, [size, rm, sf, u, lt, rn, eq]: [u8; 7]) {
+    let all = flags.n && !flags.c;
+    seen.note_if(flags.z, "WHILE with none");
+    seen.note_if(!flags.z && !all, "WHILE with some");
+    seen.note_if(all, "WHILE with all");
+    let x = |number: u8| before.x.get(usize::from(number)).copied().unwrap_or(0);
+    let (start, limit) = (x(rn), x(rm));
+    seen.note_if(sf == 0 && start >> 32 != limit >> 32, "WHILE of words under different high ones");
+    // the last number in its direction, at the top of a register
+    let shift = 32 - 32 * u32::from(sf);
+    let last = (if u == 1 { u64::MAX } else { u64::MAX >> 1 } ^ u64::from(lt).wrapping_sub(1)) >> shift << shift;
+    let distance = if lt == 1 { limit.wrapping_sub(start) } else { start.wrapping_sub(limit) } << shift >> shift;
+    let past = limit << shift == last && lt == eq && distance < before.vl / (8 << size);
+    seen.note_if(past, "WHILE past the last number");
+}
+
+fn note_registers(seen: &mut Seen, row: &Row) {
+    let widths = instructions::WIDTHS[usize::from(row[0])];
+    let wide = |width: u8| row[1..].iter().zip(widths).filter(move |(_, &w)| w == width).map(|(&field, _)| field);
+    let mut twice = false;
+    for width in [4, 5] {
+        let fields: Vec<u8> = wide(width).collect();
+        twice |= fields.len() == 2 && fields[0] == fields[1];
+    }
+    seen.note_if(wide(5).any(|field| field == 31), "X31 named");
+    seen.note_if(twice, "a register twice");
+}
+
+pub struct Runs;
+
+const RUNS: u64 = 100_000;
+const RUN_KIND: u64 = 12;
+
+impl Kind for Runs {
+    type Input = (State, Vec<u32>);
+    const NAME: &'static str = "runs";
+    const REPLIES: &'static [u8] = &[0, 1, 2, 3, 4];
+    const FORMS: Forms = Forms::EachAtEachLength;
+    const NOTES: &'static [&'static str] = &[
+        "no words",
+        "illegal without words",
+        "more than 100 done",
+        "refused at the first word",
+        "words after a refused one",
+    ];
+
+    fn numbers() -> impl Iterator<Item = u64> {
+        0..RUNS
+    }
+
+    fn make(seed: u64, number: u64) -> (State, Vec<u32>) {
+        let random = &mut Random::new(seed, RUN_KIND, number);
+        let mut state = states::any(random);
+        let count = if random.one_in(100) { random.below(400) } else { random.below(20) };
+        let safe = random.one_in(2);
+        if count > 20 {
+            state.level = 3;
+            state.access = true;
+        }
+        let words = (0..count).map(|_| match safe || count > 20 {
+            true => instructions::accepted(random),
+            false => instructions::any(random),
+        });
+        (state, words.collect())
+    }
+
+    fn show((state, words): &(State, Vec<u32>)) -> String {
+        show_state(state) + &show_words(words)
+    }
+
+    fn compare((state, words): &(State, Vec<u32>), seen: &mut Seen) -> Outcome {
+        let random = &mut Random::new(0, RUN_KIND, words.len() as u64);
+        let lent = Lent::holding(words, random, word);
+        let before = lent.clone();
+        let library = boundary::run(state, lent.held());
+        let second = model::run(state, words);
+        let mut differences = Differences::default();
+        differences.field("reply", library.reply, second.reply);
+        differences.field("done", library.done, second.done);
+        differences.state(&library.state, &second.state);
+        differences.lent("words", &lent, &before);
+        repeat(state, words, &library, &mut differences);
+        note_run(seen, state, words, &second);
+        differences.outcome()
+    }
+}
+
+/// The library's run against its own steps.
+fn repeat(state: &State, words: &[u32], ran: &Ran, differences: &mut Differences) {
+    let mut state = state.clone();
+    let (mut done, mut reply) = (0, 0);
+    while reply == 0 && done < words.len() {
+        reply = boundary::step(&mut state, words[done]);
+        done += usize::from(reply == 0);
+    }
+    differences.field("done, run against steps", ran.done, done);
+    differences.state(&ran.state, &state);
+    if !words.is_empty() {
+        differences.field("reply, run against steps", ran.reply, reply);
+    }
+}
+
+fn note_run(seen: &mut Seen, state: &State, words: &[u32], ran: &Ran) {
+    seen.reply(ran.reply);
+    for &word in &words[..ran.done] {
+        seen.form(&decode(word).expect("it was executed"), state.vl);
+    }
+    seen.note_if(words.is_empty(), "no words");
+    seen.note_if(words.is_empty() && ran.reply == 4, "illegal without words");
+    seen.note_if(ran.done > 100, "more than 100 done");
+    seen.note_if(ran.done == 0 && ran.reply != 0, "refused at the first word");
+    seen.note_if(ran.done + 1 < words.len(), "words after a refused one");
+}

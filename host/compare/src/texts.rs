@@ -1,0 +1,106 @@
+//! Texts of images, in buffers of every small size, around the text's own length, and in a big one.
+
+use crate::boundary;
+use crate::differences::{show_bytes, Differences, Outcome};
+use crate::kind::{Forms, Kind};
+use crate::lent::{byte, Lent};
+use crate::seen::Seen;
+use compare::damage::{self, Damage};
+use compare::instructions;
+use compare::random::Random;
+use compare::states::{self, LENGTHS};
+
+pub struct Texts;
+
+const KIND: u64 = 19;
+const SMALL: usize = 100;
+
+impl Kind for Texts {
+    type Input = Vec<u8>;
+    const NAME: &'static str = "texts";
+    /// Those of the image or of its last word stepped.
+    const REPLIES: &'static [u8] = &[0, 1, 2, 3, 5, 6, 7];
+    const FORMS: Forms = Forms::EachAtEachLength;
+    const NOTES: &'static [&'static str] =
+        &["buffers", "no text", "a part of the lines", "a later line without an earlier", "4,096 lines"];
+
+    fn numbers() -> impl Iterator<Item = u64> {
+        0..1_500
+    }
+
+    fn make(seed: u64, number: u64) -> Vec<u8> {
+        let random = &mut Random::new(seed, KIND, number);
+        let vl = random.pick(&LENGTHS);
+        let mut state = states::legal(random, vl);
+        let long = number.is_multiple_of(100);
+        let count = if long { 4096 } else { random.below(14) };
+        let calm = random.one_in(2);
+        if long {
+            state.level = 3;
+            state.access = true;
+        }
+        let words = (0..count).map(|_| match long || calm {
+            true => instructions::accepted(random),
+            false => instructions::any(random),
+        });
+        let image = damage::image(&state, &words.collect::<Vec<_>>());
+        let damage = if long || random.one_in(2) { Damage::None } else { damage::any(random, &image, vl) };
+        damage::damaged(&image, damage)
+    }
+
+    fn show(image: &Vec<u8>) -> String {
+        format!("an image of {}the second program's text:\n{}", show_bytes(image), utf8(&model::text(image)))
+    }
+
+    fn compare(image: &Vec<u8>, seen: &mut Seen) -> Outcome {
+        let text = model::text(image);
+        let long = image.len() > 4096;
+        let small = if long { 0..1 } else { 0..SMALL };
+        let around = text.len().saturating_sub(30)..text.len() + 3;
+        let around = if long { text.len() - 1..text.len() + 1 } else { around };
+        let mut differences = Differences::default();
+        for room in small.chain(around).chain([plokamyr::TEXT_MAX]) {
+            compare_in(image, room, &text, seen, &mut differences);
+        }
+        differences.field("the whole text", utf8(&plokamyr::text(image)), utf8(&text));
+        note(seen, image, &text);
+        differences.outcome()
+    }
+}
+
+fn compare_in(image: &[u8], room: usize, text: &[u8], seen: &mut Seen, differences: &mut Differences) {
+    let lent = Lent::holding(image, &mut Random::new(0, KIND, 0), byte);
+    let before = lent.clone();
+    let mut ours = Lent::new(room, &mut Random::new(1, KIND, 0), byte);
+    let mut theirs = ours.clone();
+    let library = boundary::text_in(lent.held(), ours.part());
+    let second = model::text_in(image, theirs.part());
+    differences.field(&format!("length in {room} bytes"), library, second);
+    differences.lent(&format!("text in {room} bytes"), &ours, &theirs);
+    differences.lent("image", &lent, &before);
+    seen.note("buffers");
+    seen.note_if(second == 0, "no text");
+    seen.note_if(second > 0 && second < text.len(), "a part of the lines");
+    let later = !text.starts_with(&theirs.held()[..second]);
+    seen.note_if(later, "a later line without an earlier");
+}
+
+/// The reply that the text tells last, and the words that it tells as done.
+fn note(seen: &mut Seen, image: &[u8], text: &[u8]) {
+    let mut words = vec![0; 4096];
+    let reading = model::read(image, &mut words);
+    if reading.reply != 0 {
+        seen.reply(reading.reply);
+        return;
+    }
+    let ran = model::run(&reading.state, &words[..reading.count]);
+    seen.reply(ran.reply);
+    for &word in &words[..ran.done] {
+        seen.form(&model::decode(word).expect("it was executed"), reading.state.vl);
+    }
+    seen.note_if(text.iter().filter(|&&byte| byte == b'\n').count() == 4097, "4,096 lines");
+}
+
+fn utf8(text: &[u8]) -> String {
+    String::from_utf8_lossy(text).into_owned()
+}

@@ -1,0 +1,177 @@
+//! Words read as rows, and rows written as words.
+
+use crate::boundary;
+use crate::differences::{show_word, Differences, Outcome};
+use crate::kind::{Forms, Kind};
+use crate::seen::Seen;
+use compare::instructions::{self, WIDTHS};
+use compare::random::Random;
+use model::Row;
+use plokamyr::{Form, Reply};
+use std::hint::black_box;
+
+const WORD_KIND: u64 = 20;
+const ROW_KIND: u64 = 21;
+
+/// Where the length plays no part.
+const ANY_LENGTH: u64 = 128;
+
+/// What stands in a row before it is lent, and around it.
+const CANARY: u8 = 0xA7;
+const WORD_CANARY: u32 = 0xA7A7_5EED;
+
+/// The library's reading of a word: reply and row, with what a refusal leaves of it.
+fn library_decode(word: u32) -> (u32, Row) {
+    let mut lent = [[CANARY; 9]; 3];
+    let reply = boundary::decode(word, &mut black_box(&mut lent)[1]);
+    let lent = black_box(&lent);
+    assert_eq!((lent[0], lent[2]), ([CANARY; 9], [CANARY; 9]), "decode wrote past the row");
+    (reply, lent[1])
+}
+
+/// The library's writing of a row: reply and word, with what a refusal leaves of it.
+fn library_encode(row: &Row) -> (u32, u32) {
+    let mut lent = [WORD_CANARY; 3];
+    let read = *row;
+    let reply = boundary::encode(black_box(&read), &mut black_box(&mut lent)[1]);
+    let lent = black_box(&lent);
+    assert_eq!((lent[0], lent[2]), (WORD_CANARY, WORD_CANARY), "encode wrote past the word");
+    assert_eq!(*black_box(&read), *row, "encode changed the row");
+    (reply, lent[1])
+}
+
+/// All words 25xxxxxx by their low 24 bits, then others.
+pub struct Words;
+
+const OURS: u64 = 1 << 24;
+const OTHERS: u64 = 1_000_000;
+
+impl Kind for Words {
+    type Input = u32;
+    const NAME: &'static str = "words";
+    const REPLIES: &'static [u8] = &[0, 1];
+    const FORMS: Forms = Forms::Each;
+    const NOTES: &'static [&'static str] = &["outside 25xxxxxx"];
+
+    fn numbers() -> impl Iterator<Item = u64> {
+        0..OURS + OTHERS
+    }
+
+    fn make(seed: u64, number: u64) -> u32 {
+        if number < OURS {
+            return 0x2500_0000 | number as u32;
+        }
+        let random = &mut Random::new(seed, WORD_KIND, number);
+        let word = random.next() as u32;
+        match random.below(4) {
+            0 => instructions::accepted(random) ^ 1 << (24 + random.below(8)), // ours but for the highest byte
+            _ if word >> 24 == 0x25 => word ^ 0x8000_0000,
+            _ => word,
+        }
+    }
+
+    fn show(word: &u32) -> String {
+        show_word(*word)
+    }
+
+    fn compare(&word: &u32, seen: &mut Seen) -> Outcome {
+        let (reply, row) = library_decode(word);
+        let mut differences = Differences::default();
+        seen.note_if(word >> 24 != 0x25, "outside 25xxxxxx");
+        let Some(second) = model::decode(word) else {
+            differences.field("reply", reply, 1);
+            differences.field("row", row, [CANARY; 9]);
+            differences.field("the wrapper's row", plokamyr::decode(word), Err(Reply::UnknownWord));
+            seen.reply(1);
+            return differences.outcome();
+        };
+        differences.field("reply", reply, 0);
+        differences.field("row", row, second);
+        differences.field("the wrapper's row", plokamyr::decode(word), Ok(wrapped(&second)));
+        differences.field("encode of the row", library_encode(&second), (0, word));
+        differences.field("the second program's encode", model::encode(&second), Some(word));
+        seen.reply(0);
+        seen.form(&second, ANY_LENGTH);
+        differences.outcome()
+    }
+}
+
+/// A row in the wrapper's type; its form is one of the eleven.
+fn wrapped(row: &Row) -> plokamyr::Row {
+    let mut fields = [0; 8];
+    fields.copy_from_slice(&row[1..]);
+    plokamyr::Row { form: Form::from_number(row[0]).expect("one of the eleven"), fields }
+}
+
+/// First every place after the form of every form with all 256 values, the others in range: the fields, and the places
+/// after them. Then every form from 0 to 255. Then any rows.
+pub struct Rows;
+
+const PLACES: u64 = 11 * 8 * 256;
+const ALL_FORMS: u64 = 256 * 40;
+const ANY: u64 = 500_000;
+
+impl Kind for Rows {
+    type Input = Row;
+    const NAME: &'static str = "rows";
+    const REPLIES: &'static [u8] = &[0, 9];
+    const FORMS: Forms = Forms::Each;
+    const NOTES: &'static [&'static str] =
+        &["a field at its limit", "a field past it", "junk after the fields", "no such form"];
+
+    fn numbers() -> impl Iterator<Item = u64> {
+        0..PLACES + ALL_FORMS + ANY
+    }
+
+    fn make(seed: u64, number: u64) -> Row {
+        let random = &mut Random::new(seed, ROW_KIND, number);
+        if number < PLACES {
+            let mut row = instructions::row(random, number as usize / 2048);
+            row[1 + number as usize / 256 % 8] = number as u8;
+            return row;
+        }
+        let form = random.index(11);
+        let mut row = instructions::row(random, form);
+        if number < PLACES + ALL_FORMS {
+            row[0] = (number - PLACES) as u8;
+        } else if random.one_in(2) {
+            row[random.index(9)] = random.next() as u8;
+        } else {
+            let end = random.pick(&[2, 4, 8, 16, 32, 256]);
+            row = row.map(|_| random.below(end) as u8);
+        }
+        row
+    }
+
+    fn show(row: &Row) -> String {
+        format!("row {row:?}\n")
+    }
+
+    fn compare(row: &Row, seen: &mut Seen) -> Outcome {
+        let library = library_encode(row);
+        let second = model::encode(row);
+        let mut differences = Differences::default();
+        differences.field("reply and word", library, second.map_or((9, WORD_CANARY), |word| (0, word)));
+        if row[0] < 11 {
+            let wrapper = plokamyr::encode(wrapped(row));
+            differences.field("the wrapper's word", wrapper, second.ok_or(Reply::FieldPastRange));
+        }
+        if let Some(word) = second {
+            differences.field("decode of the word", library_decode(word), (0, *row));
+            seen.form(row, ANY_LENGTH);
+        }
+        seen.reply(if second.is_some() { 0 } else { 9 });
+        note(seen, row);
+        differences.outcome()
+    }
+}
+
+fn note(seen: &mut Seen, row: &Row) {
+    let Some(widths) = WIDTHS.get(usize::from(row[0])) else {
+        return seen.note("no such form");
+    };
+    let fields = row[1..].iter().zip(*widths).map(|(&field, &width)| (u32::from(field), 1 << width));
+    seen.note_if(fields.clone().any(|(field, end)| field + 1 == end), "a field at its limit");
+    seen.note_if(fields.clone().any(|(field, end)| field == end), "a field past it");
+    seen.note_if(row[1 + widths.len()..].iter().any(|&number| number != 0), "junk after the fields");
+}
