@@ -128,24 +128,6 @@ pub fn row_of(i: Instruction) -> [u8; 9]
     }
 }
 
-fn condition_of(lt: bool, eq: bool) -> Condition
-    ensures { λ r. ⌜ r ≡ conditionOf lt eq ⌝ }
-{
-    if lt {
-        if eq {
-            Condition::LessEqual
-        } else {
-            Condition::Less
-        }
-    } else {
-        if eq {
-            Condition::Greater
-        } else {
-            Condition::GreaterEqual
-        }
-    }
-}
-
 fn size_at(n: u8) -> Size
     ensures { λ r. ⌜ r ≡ sizeOf n ⌝ }
 {
@@ -155,7 +137,7 @@ fn size_at(n: u8) -> Size
 fn while_at(target: Target, size: u8, rm: u8, u: u8, lt: u8, rn: u8, eq: u8) -> Instruction
     ensures { λ r. ⌜ r ≡ Instruction.While (conditionOf (flag lt) (flag eq)) (flag u) target (sizeOf size) rn rm ⌝ }
 {
-    let condition = condition_of(lt == 1, eq == 1);
+    let condition = words::condition_of(lt == 1, eq == 1);
     let size = size_at(size);
     Instruction::While {
         condition,

@@ -15,9 +15,10 @@ use Rattle.registers.specs.declared.State.{State}
 use Rattle.registers.specs.Reply.{numberOf}
 use Rattle.image.specs.declared.Reading.{Reading}
 use Rattle.image.specs.Bytes.{value, parts}
-use Rattle.image.specs.Reading.{countOf, contentOf, after, sectionFault, lengthOf, settingsWrong, flagsWrong, flagsOf, predicateOf, wordsReply, flagsReply, predicatesReply, xReply, imageReply, xAt, predicatesAt, flagsAt, wordsAt, stateOf, wordsOf, blank, readOf, listAfter}
+use Rattle.image.specs.Reading.{countOf, contentOf, after, sectionFault, lengthOf, settingsWrong, flagsWrong, flagsIn, predicateOf, wordsReply, flagsReply, predicatesReply, xReply, imageReply, xAt, predicatesAt, flagsAt, wordsAt, stateOf, wordsOf, blank, readOf, listAfter}
 use Rattle.image.proofs.Bytes.{sets-over, length-parts}
-use Rattle.image.proofs.Sections.{Whole, whole, both-done, not-refused, done-of}
+use Rattle.image.proofs.Sections.{Whole, whole, both-done, not-refused}
+use Rattle.registers.proofs.Replies.{number-done}
 
 -- ---- an image without a fault
 
@@ -61,7 +62,7 @@ sound room image e =
 pub state-from : (image fa fc x0 xc p0 p1 pc : List ℕ) (vl a : ℕ) (level : ℕ) (flags : Flags) (x : List ℕ) (p : List Predicate) (s : State)
     → s ≡ record { vl = vl; level = level; access = eqb a 1; flags = flags; x = x; p = p }
     → vl ≡ lengthOf image → level ≡ getD image 5 0 → a ≡ getD image 6 0
-    → flags ≡ flagsOf fc → fc ≡ drop 4 fa → fa ≡ flagsAt image
+    → flags ≡ flagsIn fc → fc ≡ drop 4 fa → fa ≡ flagsAt image
     → x ≡ parts value 8 31 xc → xc ≡ drop 4 x0 → x0 ≡ drop 7 image
     → p ≡ parts predicateOf (vl / 64) 16 pc → pc ≡ drop 4 p1 → p1 ≡ drop 252 p0 → p0 ≡ drop 7 image
     → s ≡ stateOf image
@@ -78,7 +79,7 @@ module _ (image : List ℕ) (f : Reply) (n : ℕ) where
     pub read-done : (s : State) (rest : List ℕ) (k : ℕ) → n ≡ 0 → s ≡ stateOf image → rest ≡ wordsAt image → k ≡ countOf rest
         → _≡_ {A = Reading} (record { reply = f; state = s; count = k }) (readOf room image)
     unfolding readOf
-    read-done s rest k z es er ek = rw (← e, eq-eqb (numberOf f) 0 (sym m ∙ z), es, ek, er, done-of f (sym m ∙ z))
+    read-done s rest k z es er ek = rw (← e, eq-eqb (numberOf f) 0 (sym m ∙ z), es, ek, er, number-done f (sym m ∙ z))
 
   module _ (list : List ℕ) (e : f ≡ imageReply (length list) image) (m : n ≡ numberOf f) where
     pub list-refused : (n ≡ 0 → ⊥) → list ≡ listAfter image list
@@ -86,7 +87,7 @@ module _ (image : List ℕ) (f : Reply) (n : ℕ) where
     list-refused h = rw (← e, ne-eqb (numberOf f) 0 (λ z. h (m ∙ z)))
 
     pub found : n ≡ 0 → Sound (length list) image
-    found z = sound (length list) image (sym e ∙ done-of f (sym m ∙ z))
+    found z = sound (length list) image (sym e ∙ number-done f (sym m ∙ z))
 
     -- the words are not too many, and have room
     pub fill-most : (rest : List ℕ) (k : ℕ) → n ≡ 0 → rest ≡ wordsAt image → k ≡ countOf rest → k ≤ 4096

@@ -27,7 +27,7 @@ use Rattle.registers.proofs.Legality.{Legal, legal-has, has-legal, quads}
 use Rattle.registers.proofs.Registers.{Sized}
 use Rattle.image.specs.Bytes.{le, value, parts, joined, over}
 use Rattle.image.specs.Image.{section, settingsBytes, predicateBytes, flagBytes, imageOf}
-use Rattle.image.specs.Reading.{countOf, contentOf, after, sectionFault, orElse, lengthOf, settingsWrong, flagsWrong, flagsOf, predicateOf, wordsReply, flagsReply, predicatesReply, xReply, imageReply, xAt, predicatesAt, flagsAt, wordsAt, stateOf, wordsOf, readOf, listAfter}
+use Rattle.image.specs.Reading.{countOf, contentOf, after, sectionFault, orElse, lengthOf, settingsWrong, flagsWrong, flagsIn, predicateOf, wordsReply, flagsReply, predicatesReply, xReply, imageReply, xAt, predicatesAt, flagsAt, wordsAt, stateOf, wordsOf, readOf, listAfter}
 use Rattle.image.specs.Writing.{writtenOf, bufferAfter}
 use Rattle.image.proofs.Bytes.{AreBytes, bytes-take, bytes-drop, length-le, value-le, value-below, le-value-at, length-parts, parts-at, parts-joined, joined-parts, length-joined}
 use Rattle.image.proofs.PredicateBytes.{byte-bits, length-bytes, predicate-back, predicate-again, predicate-within}
@@ -197,8 +197,8 @@ module _ (s : State) (ws : List ℕ) (held : Held s) (ok : legal s ≡ true) (fe
       (subst (λ (n : ℕ). parts predicateOf size n (joined (predicateBytes size) (s .p) ++ r3) ≡ s .p) (held .sized .ps)
       (parts-joined predicateOf size (predicateBytes size) allFalse (s .p) r3 (λ i. length-bytes size (readP s i)) predicate-same))
 
-  flags-back : flagsOf (contentOf (flagsAt image)) ≡ s .flags
-  unfolding flagsOf flagBytes
+  flags-back : flagsIn (contentOf (flagsAt image)) ≡ s .flags
+  unfolding flagsIn flagBytes
   flags-back = rw (at-flags, section-content 4 (flagBytes (s .flags)) r4, digit-back (s .flags .n), digit-back (s .flags .z), digit-back (s .flags .c), digit-back (s .flags .v))
 
   state-back : stateOf (imageOf s ws) ≡ s
@@ -342,8 +342,8 @@ module _ (image : List ℕ) (room : ℕ) (bytes : AreBytes image) (done : imageR
       let t : drop (4 + n * 4) (wordsAt image) ≡ [] = drop-of-length-le (wordsAt image) (ok .ends) in
       rw (length-parts, e) (sym (append-nil (section n (take (n * 4) c))) ∙ ap (λ (z : List ℕ). section n (take (n * 4) c) ++ z) (sym t) ∙ section-of (wordsAt image) (n * 4) (ok .words .within) bytes-w)
 
-  flags-again : section 4 (flagBytes (flagsOf (contentOf (flagsAt image)))) ++ wordsAt image ≡ flagsAt image
-  unfolding flagBytes flagsOf
+  flags-again : section 4 (flagBytes (flagsIn (contentOf (flagsAt image)))) ++ wordsAt image ≡ flagsAt image
+  unfolding flagBytes flagsIn
   flags-again =
       let c : List ℕ = contentOf (flagsAt image) in
       let l : 4 ≤ length c = whole-content 4 1 (flagsAt image) (ok .flags) in

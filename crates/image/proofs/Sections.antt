@@ -18,27 +18,13 @@ use Rattle.registers.specs.declared.Reply.{Reply}
 use Rattle.registers.specs.declared.Reply.the-variants as R
 use Rattle.registers.specs.Legal.{isLength}
 use Rattle.registers.specs.Reply.{numberOf}
+use Rattle.registers.proofs.Replies.{number-done}
 use Rattle.image.specs.Bytes.{le}
 use Rattle.image.specs.Image.{section, flagBytes}
 use Rattle.image.specs.Reading.{countOf, sectionFault, orElse, settingsWrong, flagsWrong, wordsReply}
 use Rattle.image.proofs.Bytes.{length-le, sets-append}
 
 -- ---- the first fault answers
-
-pub done-of : (r : Reply) → numberOf r ≡ 0 → r ≡ R.Done
-done-of R.Done e = refl
-done-of R.UnknownWord e = absurd (omega arith)
-done-of R.LevelTooLow e = absurd (omega arith)
-done-of R.AccessOff e = absurd (omega arith)
-done-of R.IllegalState e = absurd (omega arith)
-done-of R.ImageCut e = absurd (omega arith)
-done-of R.NotAllowed e = absurd (omega arith)
-done-of R.TrailingBytes e = absurd (omega arith)
-done-of R.BufferTooSmall e = absurd (omega arith)
-done-of R.FieldPastRange e = absurd (omega arith)
-done-of R.BadWalkRegisters e = absurd (omega arith)
-done-of R.ListTooShort e = absurd (omega arith)
-done-of R.BudgetSpent e = absurd (omega arith)
 
 -- as the code tests it, by the number n of the fault f that was found
 module _ (f g : Reply) (n : ℕ) (e : f ≡ g) (m : n ≡ numberOf f) where
@@ -57,12 +43,12 @@ module _ (f g : Reply) (n : ℕ) (e : f ≡ g) (m : n ≡ numberOf f) where
   right-content w k z h = rw h (passed k z)
 
   pub none : n ≡ 0 → g ≡ R.Done
-  none z = sym e ∙ done-of f (sym m ∙ z)
+  none z = sym e ∙ number-done f (sym m ∙ z)
 
 pub both-done : (a b : Reply) → orElse a b ≡ R.Done → (a ≡ R.Done) × (b ≡ R.Done)
 both-done a b e =
     elim (ℕ-discrete (numberOf a) 0) [
-      | yes z ↦ (done-of a z, passed a a (numberOf a) refl refl b z ∙ e)
+      | yes z ↦ (number-done a z, passed a a (numberOf a) refl refl b z ∙ e)
       | no h ↦ absurd (h (ap numberOf (refused a a (numberOf a) refl refl b h ∙ e)))
     ]
 

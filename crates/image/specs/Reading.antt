@@ -14,7 +14,7 @@ use Rattle.registers.specs.declared.Reply.{Reply}
 use Rattle.registers.specs.declared.Reply.the-variants as R
 use Rattle.registers.specs.declared.State.{State}
 use Rattle.registers.specs.Legal.{isLength}
-use Rattle.registers.specs.Reply.{numberOf}
+use Rattle.registers.specs.Reply.{isDone}
 use Rattle.registers.specs.State.{allFalse}
 use Rattle.image.specs.declared.Reading.{Reading}
 use Rattle.image.specs.Bytes.{value, parts, over}
@@ -38,9 +38,6 @@ sectionFault low high size rest =
     (pick (ltb (countOf rest) low || ltb high (countOf rest)) R.NotAllowed
     (pick (ltb (length rest) (4 + countOf rest * size)) R.ImageCut R.Done))
 
-abbrev pub isDone : Reply → Bool
-isDone r = eqb (numberOf r) 0
-
 -- the first fault answers
 unfoldable pub orElse : Reply → Reply → Reply
 orElse a b = pick (isDone a) b a
@@ -59,8 +56,8 @@ settingsWrong content = not (isLength (128 * getD content 0 0)) || (ltb 3 (getD 
 unfoldable pub flagsWrong : List ℕ → Bool
 flagsWrong content = some (λ i. ltb 1 (getD content i 0)) 4
 
-unfoldable pub flagsOf : List ℕ → Flags
-flagsOf content = record { n = eqb (getD content 0 0) 1; z = eqb (getD content 1 0) 1; c = eqb (getD content 2 0) 1; v = eqb (getD content 3 0) 1 }
+unfoldable pub flagsIn : List ℕ → Flags
+flagsIn content = record { n = eqb (getD content 0 0) 1; z = eqb (getD content 1 0) 1; c = eqb (getD content 2 0) 1; v = eqb (getD content 3 0) 1 }
 
 -- bytes, lowest bits first
 unfoldable pub predicateOf : List ℕ → Predicate
@@ -106,7 +103,7 @@ stateOf image = record {
   vl = lengthOf image;
   level = getD image 5 0;
   access = eqb (getD image 6 0) 1;
-  flags = flagsOf (contentOf (flagsAt image));
+  flags = flagsIn (contentOf (flagsAt image));
   x = parts value 8 31 (contentOf (xAt image));
   p = parts predicateOf (lengthOf image / 64) 16 (contentOf (predicatesAt image));
 }

@@ -8,10 +8,10 @@ use Rattle.registers.specs.declared.Reply.{Reply}
 use Rattle.registers.specs.declared.Reply.the-variants as R
 use Rattle.registers.specs.declared.State.{State}
 use Rattle.registers.specs.Legal.{illegal}
+use Rattle.registers.specs.Reply.{isDone}
 use Rattle.image.specs.declared.Written.{Written}
 use Rattle.image.specs.Bytes.{over}
 use Rattle.image.specs.Image.{imageOf}
-use Rattle.image.specs.Reading.{isDone}
 
 -- 4, then a word count above 4,096 (6), then 8
 unfoldable pub writeReply : State → List ℕ → ℕ → Reply

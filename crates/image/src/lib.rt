@@ -9,7 +9,7 @@ ghost use Rattle.bits.specs.Choice.{digit};
 ghost use Rattle.registers.specs.Legal.{legal};
 ghost use Rattle.image.specs.Bytes.{le, value, parts, joined};
 ghost use Rattle.image.specs.Image.{section, predicateBytes, flagBytes, imageOf};
-ghost use Rattle.image.specs.Reading.{countOf, sectionFault, settingsWrong, flagsWrong, flagsOf, predicateOf, wordsReply, flagsReply, predicatesReply, xReply, imageReply, lengthOf, flagsAt, wordsAt, stateOf, blank as blankState, readOf, listAfter};
+ghost use Rattle.image.specs.Reading.{countOf, sectionFault, settingsWrong, flagsWrong, flagsIn, predicateOf, wordsReply, flagsReply, predicatesReply, xReply, imageReply, lengthOf, flagsAt, wordsAt, stateOf, blank as blankState, readOf, listAfter};
 ghost use Rattle.image.specs.Writing.{writtenOf, bufferAfter};
 use predicates::Flags;
 use predicates::Predicate;
@@ -305,7 +305,7 @@ fn state_of(image: &[u8]) -> State
 }
 
 fn flags_of(content: &[u8]) -> Flags
-    ensures { λ r. ⌜ r ≡ flagsOf (now (content .entry)) ⌝ }
+    ensures { λ r. ⌜ r ≡ flagsIn (now (content .entry)) ⌝ }
 {
     Flags {
         n: byte(content, 0) == 1,

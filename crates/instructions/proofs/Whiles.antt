@@ -10,12 +10,12 @@ use Rattle.bits.specs.Choice.{pick}
 use Rattle.bits.specs.Search.{some, scan, afterLast}
 use Rattle.bits.proofs.Searches.{first-found, first-le, some-yes, some-no}
 use Rattle.predicates.specs.declared.Flags.{Flags}
-use Rattle.predicates.specs.PredTest.{predTest, nzcv, atLowest, atHighest}
+use Rattle.predicates.specs.PredTest.{every, predTest, nzcv, atLowest, atHighest}
 use Rattle.predicates.specs.Predicate.{pack, spread, between, spanOf}
 use Rattle.predicates.proofs.Flagging.{flags-are}
 use Rattle.predicates.proofs.Spans.{between-yes, between-before, between-after, test-first, test-last}
 use Rattle.scalars.specs.While.{heldOf}
-use Rattle.instructions.specs.While.{allHeld, whileElement, lowHalf, highHalf, every}
+use Rattle.instructions.specs.While.{allHeld, whileElement, lowHalf, highHalf}
 
 module _ (held : ℕ → Bool) (n : ℕ) where
   pub held-le : heldOf held n ≤ n

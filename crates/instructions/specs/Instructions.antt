@@ -11,7 +11,7 @@ use Rattle.bits.specs.Search.{count, firstFrom, afterLast}
 use Rattle.bits.specs.Size.{shift}
 use Rattle.predicates.specs.declared.Predicate.{Predicate}
 use Rattle.predicates.specs.Predicate.{bitAt, pack, active, spread, elements}
-use Rattle.predicates.specs.PredTest.{predTest}
+use Rattle.predicates.specs.PredTest.{every, predTest}
 use Rattle.predicates.specs.Predicate.{allFalse}
 use Rattle.words.specs.declared.Condition.{Condition}
 use Rattle.words.specs.declared.Target.{Target}
@@ -23,7 +23,7 @@ use Rattle.scalars.specs.While.{upward, comparison, heldOf}
 use Rattle.scalars.specs.Saturate.{saturating}
 use Rattle.instructions.specs.declared.Effect.{Effect}
 use Rattle.instructions.specs.Effect.{writesX, writesP, writesPF, writesPPF, writesF}
-use Rattle.instructions.specs.While.{whileElement, lowHalf, highHalf, every}
+use Rattle.instructions.specs.While.{whileElement, lowHalf, highHalf}
 use Rattle.instructions.specs.Counter.{counterOf, counterFlags, expanded}
 
 -- WHILE of one predicate: the operands are the whole registers, or their low words

@@ -19,7 +19,3 @@ lowHalf n q e = ltb e n && q e
 
 abbrev pub highHalf : ℕ → (ℕ → Bool) → ℕ → Bool
 highHalf n q e = ltb e n && q (n + e)
-
--- an all-true mask
-abbrev pub every : ℕ → Bool
-every e = true

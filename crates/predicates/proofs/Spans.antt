@@ -13,7 +13,7 @@ use Rattle.bits.specs.Search.{count, some, firstFrom, afterLast}
 use Rattle.bits.proofs.Counts.{above-none}
 use Rattle.bits.proofs.Searches.{some-yes, some-no, some-none, first-is, first-hit, last-is}
 use Rattle.predicates.specs.declared.Predicate.{Predicate}
-use Rattle.predicates.specs.PredTest.{atLowest, atHighest, predTest}
+use Rattle.predicates.specs.PredTest.{every, atLowest, atHighest, predTest}
 use Rattle.predicates.specs.Predicate.{bitAt, pack, allFalse, active, spread, between, spanOf, hasBitFrom}
 use Rattle.predicates.proofs.ElementBits.{active-pack}
 use Rattle.predicates.proofs.Flagging.{flags-are}
@@ -104,9 +104,6 @@ last-of-one e n h =
     }))
 
 -- ---- PredTest under an all-true mask
-
-abbrev pub every : ℕ → Bool
-every e = true
 
 lowest-every : (result : ℕ → Bool) (n : ℕ) → atLowest every result (suc n) ≡ result 0
 unfolding atLowest

@@ -1,6 +1,6 @@
 -- PredTest: the flags of a result under a mask, over elements.
 use Prim.Native.Nat.{ℕ, _+_, _-_, _*_}
-use mathlib.Core.Bool.{Bool, false, not, _&&_}
+use mathlib.Core.Bool.{Bool, true, false, not, _&&_}
 use lib.Dec.{ltb}
 use Rattle.bits.specs.Choice.{digit}
 use Rattle.bits.specs.Bits.{testBit}
@@ -23,6 +23,10 @@ predTest mask result n = record {
   c = not (atHighest mask result n);
   v = false;
 }
+
+-- the all-true mask
+abbrev pub every : ℕ → Bool
+every e = true
 
 -- flags as the number NZCV, N its highest bit
 unfoldable pub nzcv : Flags → ℕ

@@ -1,5 +1,7 @@
 -- The replies and their numbers.
 use Prim.Native.Nat.{ℕ}
+use mathlib.Core.Bool.{Bool}
+use lib.Dec.{eqb}
 use Rattle.registers.specs.declared.Reply.{Reply}
 use Rattle.registers.specs.declared.Reply.the-variants as R
 
@@ -18,3 +20,7 @@ numberOf R.FieldPastRange = 9
 numberOf R.BadWalkRegisters = 10
 numberOf R.ListTooShort = 11
 numberOf R.BudgetSpent = 12
+
+-- nothing was refused
+abbrev pub isDone : Reply → Bool
+isDone r = eqb (numberOf r) 0

@@ -9,13 +9,13 @@ use Rattle.bits.specs.Search.{firstFrom}
 use Rattle.bits.proofs.Searches.{first-end, first-hit, first-miss}
 use Rattle.words.specs.declared.Condition.{Condition}
 use Rattle.scalars.specs.Value.{valueAs}
-use Rattle.scalars.specs.While.{holds, upward, stepOf, operandAt, comparison, heldOf}
+use Rattle.scalars.specs.While.{holds, upward, nextOperand, operandAt, comparison, heldOf}
 
 pub operand-first : (w : Width) (up : Bool) (a : ℕ) → operandAt w up a 0 ≡ a
 unfolding operandAt
 operand-first w up a = refl
 
-pub operand-next : (w : Width) (up : Bool) (a i : ℕ) → operandAt w up a (i + 1) ≡ stepOf w up (operandAt w up a i)
+pub operand-next : (w : Width) (up : Bool) (a i : ℕ) → operandAt w up a (i + 1) ≡ nextOperand w up (operandAt w up a i)
 unfolding operandAt
 operand-next w up a i = ap (operandAt w up a) (add-one i)
 
@@ -35,11 +35,11 @@ module _ (w : Width) (unsigned : Bool) (c : Condition) (a b n : ℕ) where
 
   -- a comparison that holds: one more
   pub again : (operand next i : ℕ) (t up : Bool) → At w unsigned c a b n operand i → i < n → t ≡ holds c (valueAs w unsigned operand) (valueAs w unsigned b) → t ≡ true
-      → up ≡ upward c → next ≡ stepOf w up operand → At w unsigned c a b n next (i + 1)
+      → up ≡ upward c → next ≡ nextOperand w up operand → At w unsigned c a b n next (i + 1)
   again operand next i t up s l e h eu en =
       record {
         within = omega arith;
-        operand-is = en ∙ ap (λ (u : Bool). stepOf w u operand) eu ∙ ap (stepOf w (upward c)) (s .operand-is) ∙ sym (operand-next w (upward c) a i);
+        operand-is = en ∙ ap (λ (u : Bool). nextOperand w u operand) eu ∙ ap (nextOperand w (upward c)) (s .operand-is) ∙ sym (operand-next w (upward c) a i);
         sought = sym (first-miss _ i n l (ap not (sym (now operand i t s e) ∙ h))) ∙ s .sought;
       }
 

@@ -23,13 +23,13 @@ abbrev pub upward : Condition → Bool
 upward c = ltBit c
 
 -- incremented by one or decremented, wrapping at the width
-abbrev pub stepOf : Width → Bool → ℕ → ℕ
-stepOf w up a = pick up ((a + 1) % 2 ^ bits w) ((a + (2 ^ bits w - 1)) % 2 ^ bits w)
+abbrev pub nextOperand : Width → Bool → ℕ → ℕ
+nextOperand w up a = pick up ((a + 1) % 2 ^ bits w) ((a + (2 ^ bits w - 1)) % 2 ^ bits w)
 
 -- the first operand at the e-th comparison
 unfoldable pub operandAt : Width → Bool → ℕ → ℕ → ℕ
 operandAt w up a zero = a
-operandAt w up a (suc e) = stepOf w up (operandAt w up a e)
+operandAt w up a (suc e) = nextOperand w up (operandAt w up a e)
 
 -- the e-th comparison
 unfoldable pub comparison : Width → Bool → Condition → ℕ → ℕ → ℕ → Bool

@@ -6,7 +6,7 @@ ghost use lib.IntN.{pos};
 ghost use mir.Syntax.{w32, w64};
 ghost use mir.Val.{toZ, ofZ};
 ghost use Rattle.scalars.specs.Value.{widthOf, lowOf, valueAs};
-ghost use Rattle.scalars.specs.While.{holds, upward, stepOf, comparison, heldOf};
+ghost use Rattle.scalars.specs.While.{holds, upward, nextOperand, comparison, heldOf};
 ghost use Rattle.scalars.specs.Saturate.{clamp, saturated, moved, saturating};
 use words::Condition;
 
@@ -111,7 +111,7 @@ fn compare32(condition: Condition, unsigned: bool, a: u32, b: u32) -> bool
 }
 
 fn step64(up: bool, a: u64) -> u64
-    ensures { λ r. ⌜ r ≡ stepOf w64 up a ⌝ }
+    ensures { λ r. ⌜ r ≡ nextOperand w64 up a ⌝ }
 {
     if up {
         return std::num::wrapping_add_u64(a, 1);
@@ -120,7 +120,7 @@ fn step64(up: bool, a: u64) -> u64
 }
 
 fn step32(up: bool, a: u32) -> u32
-    ensures { λ r. ⌜ r ≡ stepOf w32 up a ⌝ }
+    ensures { λ r. ⌜ r ≡ nextOperand w32 up a ⌝ }
 {
     if up {
         return std::num::wrapping_add_u32(a, 1);

@@ -15,9 +15,10 @@ use Rattle.registers.specs.Legal.{legal}
 use Rattle.registers.specs.Reply.{numberOf}
 use Rattle.image.specs.declared.Reading.{Reading}
 use Rattle.image.specs.Bytes.{value, over}
-use Rattle.image.specs.Reading.{isDone, imageReply, stateOf, wordsOf, countOf, contentOf, wordsAt, blank, readOf, listAfter}
+use Rattle.registers.specs.Reply.{isDone}
+use Rattle.image.specs.Reading.{imageReply, stateOf, wordsOf, countOf, contentOf, wordsAt, blank, readOf, listAfter}
 use Rattle.image.proofs.Bytes.{AreBytes, length-parts}
-use Rattle.image.proofs.Sections.{done-of}
+use Rattle.registers.proofs.Replies.{number-done}
 use Rattle.image.proofs.RoundTrips.{read-legal, read-few}
 use Rattle.report.specs.Lines.{imageLine, after, placed}
 use Rattle.transcript.specs.Transcript.{linesOf, transcriptOf, afterAll, placedAll}
@@ -61,7 +62,7 @@ module _ (image list : List ℕ) (r : Reading) (er : r ≡ readOf (length list) 
   -- an image without a fault
   module _ (n : ℕ) (en : n ≡ numberOf (r .reply)) (z : n ≡ 0) (bytes : AreBytes image) (filled : List ℕ) (ef : filled ≡ listAfter image list) where
     none : reply ≡ R.Done
-    none = done-of reply (sym told ∙ sym en ∙ z)
+    none = number-done reply (sym told ∙ sym en ∙ z)
 
     is-done : isDone reply ≡ true
     is-done = eq-eqb (numberOf reply) 0 (sym told ∙ sym en ∙ z)

@@ -17,7 +17,7 @@ use Rattle.scalars.specs.While.{operandAt, comparison}
 use Rattle.machine.specs.Effect.{setFlags, apply}
 use Rattle.machine.specs.Step.{effectOf, executeOf, afterWord, stepOf}
 use Rattle.image.specs.Bytes.{value, parts}
-use Rattle.image.specs.Reading.{sectionFault, orElse, settingsWrong, flagsWrong, flagsOf as flagsOfBytes, predicateOf, wordsReply, flagsReply, predicatesReply, xReply, imageReply, stateOf, wordsOf}
+use Rattle.image.specs.Reading.{sectionFault, orElse, settingsWrong, flagsWrong, flagsIn, predicateOf, wordsReply, flagsReply, predicatesReply, xReply, imageReply, stateOf, wordsOf}
 use Rattle.image.proofs.Example.{image}
 use Rattle.report.specs.Lines.{symbol, digits, decimalIn, flagDigits, wordLine, endLine, imageLine}
 use Rattle.transcript.specs.Transcript.{linesOf, transcriptOf, afterAll, placedAll, text}
@@ -32,7 +32,7 @@ wanted =
 
 -- with the list of 4,096 places that the program lends
 pub example : text (transcriptOf 4096 image) ≡ wanted
-unfolding transcriptOf linesOf text value parts sectionFault orElse settingsWrong flagsWrong flagsOfBytes predicateOf wordsReply flagsReply predicatesReply xReply imageReply stateOf wordsOf wordLine endLine flagDigits decimalIn digits symbol testBit number elementBit count some afterLast scan bitAt pack active spread elements predicateLength hasBitFrom atLowest atHighest predTest nzcv flagsOf isLength hasStrayBit illegal withX withP withFlags firstOf operandAt comparison allHeld whileElement counterOf counterFlags whileOne whilePair whileCounter pnext computeOf setFlags apply effectOf executeOf afterWord stepOf
+unfolding transcriptOf linesOf text value parts sectionFault orElse settingsWrong flagsWrong flagsIn predicateOf wordsReply flagsReply predicatesReply xReply imageReply stateOf wordsOf wordLine endLine flagDigits decimalIn digits symbol testBit number elementBit count some afterLast scan bitAt pack active spread elements predicateLength hasBitFrom atLowest atHighest predTest nzcv flagsOf isLength hasStrayBit illegal withX withP withFlags firstOf operandAt comparison allHeld whileElement counterOf counterFlags whileOne whilePair whileCounter pnext computeOf setFlags apply effectOf executeOf afterWord stepOf
 example = refl
 
 -- in every buffer that is long enough for all images

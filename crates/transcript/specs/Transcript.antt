@@ -1,13 +1,12 @@
 -- What the program writes: lines, and where they stand in a buffer.
 use Prim.Native.Nat.{ℕ, suc}
 use mathlib.Core.List.{List, [], _∷_, _++_}
-use lib.Dec.{eqb}
 use lib.ListN.{length}
 use Rattle.bits.specs.Choice.{pick}
 use Rattle.registers.specs.declared.State.{State}
-use Rattle.registers.specs.Reply.{numberOf}
+use Rattle.registers.specs.Reply.{numberOf, isDone}
 use Rattle.machine.specs.Step.{stepOf}
-use Rattle.image.specs.Reading.{isDone, imageReply, stateOf, wordsOf}
+use Rattle.image.specs.Reading.{imageReply, stateOf, wordsOf}
 use Rattle.report.specs.Lines.{wordLine, endLine, imageLine, after, placed}
 
 -- a line for each word stepped, up to the first refused one, and the count of those done; `done` were done before
@@ -16,7 +15,7 @@ linesOf s done [] = endLine done ∷ []
 linesOf s done (w ∷ ws) =
     let t = stepOf s w in
     wordLine done w (numberOf (t .reply)) (t .state .flags)
-    ∷ pick (eqb (numberOf (t .reply)) 0) (linesOf (t .state) (suc done) ws) (endLine done ∷ [])
+    ∷ pick (isDone (t .reply)) (linesOf (t .state) (suc done) ws) (endLine done ∷ [])
 
 -- a refused image has one line only; `room` is the length of the list lent for its words
 unfoldable pub transcriptOf : ℕ → List ℕ → List (List ℕ)

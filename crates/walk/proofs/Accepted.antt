@@ -25,22 +25,6 @@ use Rattle.words.specs.Words.{sizeOf}
 use Rattle.walk.specs.Plain.{run, begin}
 use Rattle.walk.specs.Walk.{Within, machineOf, walked, badRegisters, distance, refusalOf, wholeOf, walkOf}
 
--- 0 is the number of one reply
-pub number-done : (r : Reply) → numberOf r ≡ 0 → r ≡ R.Done
-number-done R.Done e = refl
-number-done R.UnknownWord e = absurd (omega arith)
-number-done R.LevelTooLow e = absurd (omega arith)
-number-done R.AccessOff e = absurd (omega arith)
-number-done R.IllegalState e = absurd (omega arith)
-number-done R.ImageCut e = absurd (omega arith)
-number-done R.NotAllowed e = absurd (omega arith)
-number-done R.TrailingBytes e = absurd (omega arith)
-number-done R.BufferTooSmall e = absurd (omega arith)
-number-done R.FieldPastRange e = absurd (omega arith)
-number-done R.BadWalkRegisters e = absurd (omega arith)
-number-done R.ListTooShort e = absurd (omega arith)
-number-done R.BudgetSpent e = absurd (omega arith)
-
 past : (b : Bool) (r x : Reply) → 0 < numberOf r → pick b r x ≡ R.Done → (b ≡ false) × (x ≡ R.Done)
 past true r x h e = absurd (omega (arith, ap numberOf e))
 past false r x h e = (refl, e)

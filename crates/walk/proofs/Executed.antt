@@ -14,7 +14,7 @@ use Rattle.bits.specs.Size.{shift}
 use Rattle.bits.proofs.Searches.{digit-lt, first-is}
 use Rattle.predicates.specs.declared.Flags.{Flags}
 use Rattle.predicates.specs.declared.Predicate.{Predicate}
-use Rattle.predicates.specs.PredTest.{predTest, nzcv}
+use Rattle.predicates.specs.PredTest.{every, predTest, nzcv}
 use Rattle.predicates.specs.Predicate.{allFalse, active, between, spanOf, spread, pack, elements}
 use Rattle.predicates.proofs.Flagging.{flags-back}
 use Rattle.registers.specs.declared.State.{State}
@@ -28,7 +28,7 @@ use Rattle.machine.specs.Step.{effectOf, executeOf}
 use Rattle.machine.proofs.Frame.{flags-some}
 use Rattle.instructions.specs.Effect.{writesX, writesP, writesPF}
 use Rattle.instructions.specs.Instructions.{whileOne, incDec, nextOf, pnext, computeOf}
-use Rattle.instructions.specs.While.{whileElement, every}
+use Rattle.instructions.specs.While.{whileElement}
 use Rattle.scalars.specs.Value.{lowOf}
 use Rattle.scalars.specs.While.{operandAt, comparison, heldOf}
 use Rattle.instructions.proofs.Whiles.{held-le, while-elements, span-flags, spanFlags}

@@ -15,7 +15,7 @@ use Rattle.registers.specs.declared.Reply.{Reply}
 use Rattle.registers.specs.declared.Reply.the-variants.{Done, LevelTooLow, AccessOff, IllegalState, BadWalkRegisters, ListTooShort, BudgetSpent}
 use Rattle.registers.specs.declared.State.{State}
 use Rattle.registers.specs.Legal.{legal}
-use Rattle.registers.specs.Reply.{numberOf}
+use Rattle.registers.specs.Reply.{isDone}
 use Rattle.registers.specs.State.{readX, readP}
 use Rattle.words.specs.declared.Condition.the-variants.{Less}
 use Rattle.words.specs.declared.Target.the-variants.{One}
@@ -64,18 +64,15 @@ refusalOf size n m d k s places =
     (pick (not (s .access)) AccessOff
     (pick (ltb places (distance n m s)) ListTooShort Done))))
 
-abbrev pub accepted : Reply → Bool
-accepted r = eqb (numberOf r) 0
-
 -- the walk at its end; where it is refused, as it begins
 unfoldable pub wholeOf : ℕ → ℕ → ℕ → ℕ → ℕ → ℕ → State → List ℕ → Walk State
 wholeOf size n m d k budget s l =
-    pick (accepted (refusalOf size n m d k s (length l))) (run (machineOf (sizeOf size) n m d k) budget (begin s l)) (begin s l)
+    pick (isDone (refusalOf size n m d k s (length l))) (run (machineOf (sizeOf size) n m d k) budget (begin s l)) (begin s l)
 
 -- the answer; a refusal carries its number, the given state, and count 0
 unfoldable pub walkOf : ℕ → ℕ → ℕ → ℕ → ℕ → ℕ → State → List ℕ → Walked
 walkOf size n m d k budget s l =
-    pick (accepted (refusalOf size n m d k s (length l))) (walked (wholeOf size n m d k budget s l))
+    pick (isDone (refusalOf size n m d k s (length l))) (walked (wholeOf size n m d k budget s l))
     (record { reply = refusalOf size n m d k s (length l); count = 0; state = s })
 
 -- what holds of a walk that is not refused

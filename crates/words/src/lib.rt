@@ -7,6 +7,7 @@ ghost use Rattle.words.specs.Words.{levelOf, whileLevel};
 mod read;
 mod write;
 
+pub use read::condition_of;
 pub use read::decode;
 pub use read::size_of;
 pub use write::encode;

@@ -22,7 +22,8 @@ pub fn size_of(n: u32) -> Size
     }
 }
 
-fn condition_of(lt: bool, eq: bool) -> Condition
+// By (lt, eq).
+pub fn condition_of(lt: bool, eq: bool) -> Condition
     ensures { λ r. ⌜ r ≡ conditionOf lt eq ⌝ }
 {
     if lt {

@@ -1,5 +1,5 @@
 -- `flags_of` meets its contract. Assumes nothing.
-use Rattle.image.specs.Reading.{flagsOf}
+use Rattle.image.specs.Reading.{flagsIn}
 use borrow.Author.Needs.{needs}
 use Rattle.image.proofs.flags_of.Statement.{statement}
 use Rattle.image.proofs.flags_of.Tie as tie
@@ -17,7 +17,7 @@ byte-requires-4 : tie.Need-byte-requires-4
 byte-requires-4 c κs = search needs
 
 returns : tie.Need-returns
-unfolding flagsOf
+unfolding flagsIn
 returns c = cc
 
 pub flags-of-spec : {M : Type 1} → statement M

@@ -30,7 +30,7 @@ transcript-requires c κs = search needs
 
 -- what was written lies within the buffer
 within : (c : tie.After-transcript) → c .transcript .result ≤ length (c .transcript .last .1 .1 .0)
-within c = written-within _ _ _ _ (c .transcript .ensures .0) (c .transcript .ensures .1)
+within c = written-within _ _ _ _ (c .transcript .ensures .0) (c .transcript .ensures .1 .0)
 
 array-share-prefix-out : tie.Need-array-share-prefix-out
 array-share-prefix-out c = within (c .before .before)

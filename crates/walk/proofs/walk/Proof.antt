@@ -11,13 +11,14 @@ use Rattle.registers.specs.declared.State.{State}
 use Rattle.registers.specs.Reply.{numberOf}
 use Rattle.registers.specs.State.{readX}
 use Rattle.registers.proofs.Registers.{length-mapped}
+use Rattle.registers.proofs.Replies.{number-done}
 use Rattle.words.specs.Words.{sizeOf}
 use denote.Ref.{now}
 use Rattle.walk.specs.declared.Walked.{Walked}
 use Rattle.walk.specs.Demand.{Demand3}
 use Rattle.walk.specs.Plain.{Walk, run, begin}
 use Rattle.walk.specs.Walk.{Within, machineOf, walked, refusalOf}
-use Rattle.walk.proofs.Accepted.{number-done, x-fits, accepted-within, answer-refused, whole-refused, answer-accepted, whole-accepted}
+use Rattle.walk.proofs.Accepted.{x-fits, accepted-within, answer-refused, whole-refused, answer-accepted, whole-accepted}
 use Rattle.walk.proofs.Demands.{demand3}
 use Rattle.walk.proofs.walk.Statement.{statement}
 use Rattle.walk.proofs.walk.Tie as tie

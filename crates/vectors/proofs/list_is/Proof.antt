@@ -1,0 +1,71 @@
+-- `list_is` meets its contract: the places passed are those of the bytes. Assumes nothing.
+use Prim.Native.Nat.{ℕ, _*_, _-_, _≤_, _<_}
+use mathlib.Core.Path.{_≡_, sym, _∙_}
+use native.Mathlib.Omega.{arith}
+use lib.ListN.{length, take, drop, getD}
+use lib.Seq.{ext-getD}
+use borrow.Author.Count.{below-more}
+use borrow.Author.Needs.{needs}
+use Rattle.image.specs.Bytes.{value, parts}
+use Rattle.image.proofs.Bytes.{length-parts, parts-at}
+use Rattle.vectors.proofs.Answers.{never}
+use Rattle.vectors.proofs.list_is.Statement.{statement}
+use Rattle.vectors.proofs.list_is.Tie as tie
+
+abbrev Inv-loop : tie.InvT-loop
+Inv-loop list bs i₀ i = (i ≤ length list) × ((k : ℕ) → k < i → getD list k 0 ≡ value (take 8 (drop (k * 8) bs)))
+
+abbrev μ-loop : tie.MeasureT-loop
+μ-loop list bs i₀ i = length list - i
+
+loop-holds : tie.Need-loop-holds Inv-loop μ-loop
+loop-holds c = search needs
+
+mul-if1 : tie.Need-mul-if1 Inv-loop μ-loop
+mul-if1 c = search needs
+
+shared-slice-read-if1 : tie.Need-shared-slice-read-if1 Inv-loop μ-loop
+shared-slice-read-if1 c = search needs
+
+mul-number-at : tie.Need-mul-number-at Inv-loop μ-loop
+mul-number-at c = search needs
+
+number-at-requires : tie.Need-number-at-requires Inv-loop μ-loop
+number-at-requires c κs = search needs
+
+returns : tie.Need-returns Inv-loop μ-loop
+returns c = never
+
+add-i : tie.Need-add-i Inv-loop μ-loop
+add-i c = search needs
+
+loop-less : tie.Need-loop-less Inv-loop μ-loop
+loop-less c = search needs
+
+loop-again : tie.Need-loop-again Inv-loop μ-loop
+loop-again c =
+    let l = c .before .before .before .before in
+    (search needs, below-more _ _ (l .loop .inv .1) (c .if1 .left ∙ c .before .number-at .ensures))
+
+returns-2 : tie.Need-returns-2 Inv-loop μ-loop
+returns-2 c =
+    let a = c .before .before .before .before .args in
+    λ e.
+    ext-getD 0 (a .list .now) (parts value 8 (length (a .list .now)) (a .bs .now)) (sym (length-parts value 8 _ (a .bs .now))) (λ k h. c .before .loop .inv .1 k (omega arith) ∙ sym (parts-at value 8 _ k (a .bs .now) 0 h))
+
+pub list-is-spec : {M : Type 1} → statement M
+list-is-spec =
+    tie.close
+    (tie.spec
+    Inv-loop
+    μ-loop
+    loop-holds
+    mul-if1
+    shared-slice-read-if1
+    mul-number-at
+    number-at-requires
+    returns
+    add-i
+    loop-less
+    loop-again
+    returns-2)

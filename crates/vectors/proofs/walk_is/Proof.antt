@@ -1,0 +1,116 @@
+-- `walk_is` meets its contract. Assumes nothing.
+use borrow.Author.Needs.{needs}
+use native.Mathlib.Omega.{arith}
+use borrow.Author.Tests.{not-false}
+use Rattle.vectors.proofs.Answers.{never, walk-is}
+use Rattle.vectors.proofs.walk_is.Statement.{statement}
+use Rattle.vectors.proofs.walk_is.Tie as tie
+
+register-requires : tie.Need-register-requires
+register-requires c κs = search needs
+
+register-requires-2 : tie.Need-register-requires-2
+register-requires-2 c κs = search needs
+
+register-requires-3 : tie.Need-register-requires-3
+register-requires-3 c κs = search needs
+
+register-requires-4 : tie.Need-register-requires-4
+register-requires-4 c κs = search needs
+
+register-requires-5 : tie.Need-register-requires-5
+register-requires-5 c κs = search needs
+
+number-at-requires : tie.Need-number-at-requires
+number-at-requires c κs = search needs
+
+walk-requires : tie.Need-walk-requires
+walk-requires c κs = search needs
+
+number-requires : tie.Need-number-requires
+number-requires c κs = search needs
+
+byte-requires : tie.Need-byte-requires
+byte-requires c κs = search needs
+
+same-length : tie.Need-same-length
+same-length c = search needs
+
+returns : tie.Need-returns
+returns c = never
+
+number-at-requires-2 : tie.Need-number-at-requires-2
+number-at-requires-2 c κs = search needs
+
+same-length-2 : tie.Need-same-length-2
+same-length-2 c = search needs
+
+returns-2 : tie.Need-returns-2
+returns-2 c = never
+
+after-requires : tie.Need-after-requires
+after-requires c κs = search needs
+
+block-requires : tie.Need-block-requires
+block-requires c κs = search needs
+
+state-is-requires : tie.Need-state-is-requires
+state-is-requires c κs = search needs
+
+same-length-3 : tie.Need-same-length-3
+same-length-3 c = search needs
+
+returns-3 : tie.Need-returns-3
+returns-3 c = never
+
+past-block-requires : tie.Need-past-block-requires
+past-block-requires c κs = search needs
+
+list-is-requires : tie.Need-list-is-requires
+list-is-requires c κs =
+    let w = c .before .before .before .before .before .before .before .before .before .before .before .before .before .before .before in
+    omega (arith, w .walk .kept .1 .1 .1 .1 .1 .1 .0, w .before .before .before .before .before .before .before .before .before .before .pre)
+
+same-length-4 : tie.Need-same-length-4
+same-length-4 c = search needs
+
+returns-4 : tie.Need-returns-4
+returns-4 c =
+    let e3 = c .before .before .before in
+    let e2 = e3 .before .before .before .before .before in
+    let e1 = e2 .before .before .before in
+    let w = e1 .before .before .before .before .before in
+    let r = w .before .before .before in
+    λ h.
+    walk-is _ _ _ _ _ _ _ _ _ _ _ _ _ _ _ _ _ (r .before .before .before .before .register .ensures) (r .before .before .before .register2 .ensures) (r .before .before .register3 .ensures) (r .before .register4 .ensures) (r .register5 .ensures)
+    (w .before .number-at .ensures) (w .walk .ensures .0) (w .walk .ensures .1 .0) (w .walk .kept .1 .1 .1 .1 .1 .1 .0) (e1 .before .before .number .ensures) (e1 .before .byte .ensures) (e1 .if1 .left)
+    (e2 .before .before .number-at2 .ensures) (e2 .if2 .left) (e3 .before .before .before .before .after .ensures) (e3 .before .before .block .ensures)
+    (e3 .before .state-is .ensures (not-false _ (e3 .if3 .left))) (c .before .past-block .ensures) (c .list-is .ensures h)
+
+pub walk-is-spec : {M : Type 1} → statement M
+walk-is-spec =
+    tie.close
+    (tie.spec
+    register-requires
+    register-requires-2
+    register-requires-3
+    register-requires-4
+    register-requires-5
+    number-at-requires
+    walk-requires
+    number-requires
+    byte-requires
+    same-length
+    returns
+    number-at-requires-2
+    same-length-2
+    returns-2
+    after-requires
+    block-requires
+    state-is-requires
+    same-length-3
+    returns-3
+    past-block-requires
+    list-is-requires
+    same-length-4
+    returns-4)

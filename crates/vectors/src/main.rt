@@ -1,0 +1,461 @@
+// Holds the library to stored vectors that a second program made: records on standard input, each with a kind (1 byte), the length of its
+// rest (4 bytes), and its rest. Numbers are little-endian; an image stands behind its length (4 bytes).
+ghost use mathlib.Core.Bool.{true};
+ghost use mathlib.Core.List.{[]};
+ghost use mathlib.Core.Path.{_≡_};
+ghost use Prim.Native.Nat.{_≤_};
+ghost use lib.ListN.{length, take, drop, getD};
+ghost use Rattle.image.specs.Bytes.{value, parts};
+ghost use Rattle.image.specs.Image.{imageOf};
+ghost use Rattle.vectors.specs.Records.{numberAt, block as blockOf, pastBlock, RunAgrees, ImageAgrees, Walks, WalkAgrees, Agrees};
+use libc::STDIN_FILENO;
+use libc::STDOUT_FILENO;
+use machine::Machine;
+use registers::State;
+
+// The image of a state and words; the reply (1 byte), the number of words done (4), the image of the state after.
+const RUN: u8 = 1;
+// The reply (1 byte), and an image, damaged or not.
+const IMAGE: u8 = 2;
+// The image of a state; size, n, m, d, k (1 byte each), places (4), budget (8), reply (1), count (8); the image of the state after, and the
+// list after (8 bytes a place).
+const WALK: u8 = 3;
+
+// The largest number, which stands in each place of a list before a walk.
+const LARGEST: u64 = 0xFFFF_FFFF_FFFF_FFFF;
+// The most places of a list.
+const PLACES: usize = 512;
+
+// How many records of a kind there were, and how many of them agree.
+struct Score {
+    agree: u64,
+    all: u64,
+}
+
+struct Tally {
+    runs: Score,
+    images: Score,
+    walks: Score,
+}
+
+fn main() {
+    judge([0; 720000]);
+}
+
+// Reads into the bytes handed in, which are more than the input may have.
+fn judge(mut bytes: [u8; 720000]) {
+    let length = io::read_full(STDIN_FILENO, &mut bytes);
+    if length == 720000 {
+        io::write_all(STDOUT_FILENO, b"the input is too long\n");
+        return;
+    }
+    let tally = compare(&bytes[..length]);
+    let runs = tally.runs;
+    say_score(b"runs ", runs);
+    let images = tally.images;
+    say_score(b"images ", images);
+    let walks = tally.walks;
+    say_score(b"walks ", walks);
+}
+
+// The records one after the other, to the end or to the first that is malformed.
+fn compare(bytes: &[u8]) -> Tally {
+    let none = Score { agree: 0, all: 0 };
+    let mut tally = Tally {
+        runs: none,
+        images: none,
+        walks: none,
+    };
+    let mut number = 0;
+    let mut left = bytes;
+    while 0 < left.len() {
+        number = plus(number, 1);
+        let kind = byte(left, 0);
+        let record = after(left, 1);
+        if !is_whole(kind, record) {
+            say_malformed(number);
+            return tally;
+        }
+        let agrees = holds(kind, block(record));
+        if !agrees {
+            say_differs(number);
+        }
+        tally = tally.counted(kind, agrees);
+        left = past_block(record);
+    }
+    tally
+}
+
+// The counts.
+
+// The sum, or the largest number, which no count of records reaches.
+fn plus(a: u64, b: u64) -> u64 {
+    if a <= LARGEST - b { a + b } else { LARGEST }
+}
+
+impl Score {
+    fn scored(self, agrees: bool) -> Score {
+        let all = plus(self.all, 1);
+        if agrees {
+            return Score {
+                agree: plus(self.agree, 1),
+                all,
+            };
+        }
+        Score {
+            agree: self.agree,
+            all,
+        }
+    }
+}
+
+impl Tally {
+    fn counted(self, kind: u8, agrees: bool) -> Tally {
+        let runs = self.runs;
+        let images = self.images;
+        let walks = self.walks;
+        if kind == RUN {
+            return Tally {
+                runs: runs.scored(agrees),
+                images,
+                walks,
+            };
+        }
+        if kind == IMAGE {
+            return Tally {
+                runs,
+                images: images.scored(agrees),
+                walks,
+            };
+        }
+        Tally {
+            runs,
+            images,
+            walks: walks.scored(agrees),
+        }
+    }
+}
+
+// What is said.
+
+fn say_score(name: &[u8], score: Score) {
+    io::write_all(STDOUT_FILENO, name);
+    io::print_decimal(STDOUT_FILENO, score.agree);
+    io::write_all(STDOUT_FILENO, b" of ");
+    io::print_decimal(STDOUT_FILENO, score.all);
+    io::write_all(STDOUT_FILENO, b"\n");
+}
+
+fn say_record(number: u64, what: &[u8]) {
+    io::write_all(STDOUT_FILENO, b"record ");
+    io::print_decimal(STDOUT_FILENO, number);
+    io::write_all(STDOUT_FILENO, what);
+}
+
+fn say_malformed(number: u64) {
+    say_record(number, b" is malformed\n");
+}
+
+fn say_differs(number: u64) {
+    say_record(number, b" differs\n");
+}
+
+// Parts of the bytes, whatever their length.
+
+// Byte i, or 0 past the end.
+fn byte(bs: &[u8], i: usize) -> u8
+    ensures { λ r. ⌜ r ≡ getD (now (bs .entry)) i 0 ⌝ }
+{
+    if i < bs.len() {
+        return bs[i];
+    }
+    0
+}
+
+// What is left past n bytes.
+fn after(bs: &[u8], n: usize) -> &[u8]
+    ensures { λ r. ⌜ now r ≡ drop n (now (bs .entry)) ⌝ }
+{
+    if bs.len() < n {
+        return &bs[bs.len()..];
+    }
+    &bs[n..]
+}
+
+// The first n bytes, or as many of them as there are.
+fn first(bs: &[u8], n: usize) -> &[u8]
+    ensures { λ r. ⌜ now r ≡ take n (now (bs .entry)) ⌝ }
+{
+    if bs.len() < n {
+        return bs;
+    }
+    &bs[..n]
+}
+
+// The first n words, or as many of them as there are.
+fn first_words(ws: &[u32], n: usize) -> &[u32]
+    ensures { λ r. ⌜ now r ≡ take n (now (ws .entry)) ⌝ }
+{
+    if ws.len() < n {
+        return ws;
+    }
+    &ws[..n]
+}
+
+fn wide(b: u8) -> u64
+    ensures { λ r. ⌜ r ≡ b ⌝ }
+{
+    b as u64
+}
+
+// The number of at most eight bytes, lowest first.
+fn number(bs: &[u8]) -> u64
+    requires { ⌜ length (now bs) ≤ 8 ⌝ }
+    ensures { λ r. ⌜ r ≡ value (now (bs .entry)) ⌝ }
+{
+    let mut v: u64 = 0;
+    let mut i = bs.len();
+    while 0 < i {
+        i -= 1;
+        v = v * 256 + wide(bs[i]);
+    }
+    v
+}
+
+// The number of the n bytes from `at` on.
+fn number_at(bs: &[u8], at: usize, n: usize) -> u64
+    requires { ⌜ n ≤ 8 ⌝ }
+    ensures { λ r. ⌜ r ≡ numberAt at n (now (bs .entry)) ⌝ }
+{
+    number(first(after(bs, at), n))
+}
+
+// A block is a length in four bytes, and then so many bytes.
+
+fn block_length(bs: &[u8]) -> usize
+    ensures { λ r. ⌜ r ≡ value (take 4 (now (bs .entry))) ⌝ }
+{
+    number(first(bs, 4)) as usize
+}
+
+fn has_block(bs: &[u8]) -> bool {
+    if bs.len() < 4 {
+        return false;
+    }
+    block_length(bs) <= bs.len() - 4
+}
+
+fn block(bs: &[u8]) -> &[u8]
+    ensures { λ r. ⌜ now r ≡ blockOf (now (bs .entry)) ⌝ }
+{
+    first(after(bs, 4), block_length(bs))
+}
+
+fn past_block(bs: &[u8]) -> &[u8]
+    ensures { λ r. ⌜ now r ≡ pastBlock (now (bs .entry)) ⌝ }
+{
+    after(after(bs, 4), block_length(bs))
+}
+
+// Whether a record's parts fill it.
+
+fn is_whole(kind: u8, record: &[u8]) -> bool {
+    if !has_block(record) {
+        return false;
+    }
+    let rest = block(record);
+    if kind == RUN {
+        return run_is_whole(rest);
+    }
+    if kind == IMAGE {
+        return image_is_whole(rest);
+    }
+    if kind == WALK {
+        return walk_is_whole(rest);
+    }
+    false
+}
+
+fn run_is_whole(rest: &[u8]) -> bool {
+    if !has_block(rest) {
+        return false;
+    }
+    let answer = past_block(rest);
+    if answer.len() < 5 {
+        return false;
+    }
+    let end = after(answer, 5);
+    if !has_block(end) {
+        return false;
+    }
+    past_block(end).len() == 0
+}
+
+fn image_is_whole(rest: &[u8]) -> bool {
+    let end = after(rest, 1);
+    if !has_block(end) {
+        return false;
+    }
+    past_block(end).len() == 0
+}
+
+fn walk_is_whole(rest: &[u8]) -> bool {
+    if !has_block(rest) {
+        return false;
+    }
+    let asked = past_block(rest);
+    if asked.len() < 26 {
+        return false;
+    }
+    let end = after(asked, 26);
+    if !has_block(end) {
+        return false;
+    }
+    let places = number_at(asked, 5, 4) as usize;
+    if PLACES < places {
+        return false;
+    }
+    past_block(end).len() == places * 8
+}
+
+// Whether the library answers a record as it says.
+
+fn holds(kind: u8, rest: &[u8]) -> bool
+    ensures { λ r. ⌜ (r ≡ true → Agrees kind (now (rest .entry))) ⌝ }
+{
+    if kind == RUN {
+        return run_agrees(rest);
+    }
+    if kind == IMAGE {
+        return image_agrees(rest);
+    }
+    walk_agrees(rest)
+}
+
+fn run_agrees(rest: &[u8]) -> bool
+    ensures { λ r. ⌜ (r ≡ true → RunAgrees (now (rest .entry))) ⌝ }
+{
+    let mut words = [0u32; 4096];
+    let reading = image::read(block(rest), &mut words);
+    let read = reading.reply;
+    if read.number() != 0 {
+        return false;
+    }
+    let count = reading.count;
+    let state = reading.state;
+    let ran = Machine { state }.run(first_words(&words, count));
+    let answer = past_block(rest);
+    let reply = ran.reply;
+    if reply.number() != byte(answer, 0) {
+        return false;
+    }
+    if ran.done as u64 != number_at(answer, 1, 4) {
+        return false;
+    }
+    let last = ran.state;
+    state_is(last, block(after(answer, 5)))
+}
+
+fn image_agrees(rest: &[u8]) -> bool
+    ensures { λ r. ⌜ (r ≡ true → ImageAgrees (now (rest .entry))) ⌝ }
+{
+    let image = block(after(rest, 1));
+    let mut words = [0u32; 4096];
+    let reading = image::read(image, &mut words);
+    let reply = reading.reply;
+    if reply.number() != byte(rest, 0) {
+        return false;
+    }
+    if reply.number() != 0 {
+        return true;
+    }
+    let count = reading.count;
+    let state = reading.state;
+    image_is(state, first_words(&words, count), image)
+}
+
+fn walk_agrees(rest: &[u8]) -> bool
+    ensures { λ r. ⌜ (r ≡ true → WalkAgrees (now (rest .entry))) ⌝ }
+{
+    let asked = past_block(rest);
+    let places = number_at(asked, 5, 4) as usize;
+    if PLACES < places {
+        return false;
+    }
+    let mut words = [0u32; 4096];
+    let reading = image::read(block(rest), &mut words);
+    let read = reading.reply;
+    if read.number() != 0 {
+        return false;
+    }
+    let state = reading.state;
+    let mut list = [LARGEST; 512];
+    walk_is(state, asked, &mut list[..places])
+}
+
+fn walk_is(state: State, asked: &[u8], list: &mut [u64]) -> bool
+    requires { ⌜ length (now list) ≤ 512 ⌝ }
+    ensures { λ r. ⌜ (r ≡ true → Walks state (now (asked .entry)) (now (list .entry))) ⌝ }
+{
+    let size = register(asked, 0);
+    let n = register(asked, 1);
+    let m = register(asked, 2);
+    let d = register(asked, 3);
+    let k = register(asked, 4);
+    let walked = walk::walk(state, size, n, m, d, k, list, number_at(asked, 9, 8));
+    let reply = walked.reply;
+    if reply.number() != byte(asked, 17) {
+        return false;
+    }
+    if walked.count != number_at(asked, 18, 8) {
+        return false;
+    }
+    let end = after(asked, 26);
+    let last = walked.state;
+    if !state_is(last, block(end)) {
+        return false;
+    }
+    list_is(list, past_block(end))
+}
+
+fn register(bs: &[u8], i: usize) -> u32
+    ensures { λ r. ⌜ r ≡ getD (now (bs .entry)) i 0 ⌝ }
+{
+    byte(bs, i) as u32
+}
+
+// Whether the image of a state and words is these bytes.
+fn image_is(state: State, words: &[u32], image: &[u8]) -> bool
+    ensures { λ r. ⌜ (r ≡ true → imageOf state (now (words .entry)) ≡ now (image .entry)) ⌝ }
+{
+    let mut buffer = [0u8; 17171];
+    let written = image::write(state, words, &mut buffer);
+    let reply = written.reply;
+    if reply.number() != 0 {
+        return false;
+    }
+    let length = written.length;
+    check::same(first(&buffer, length), image)
+}
+
+fn state_is(state: State, image: &[u8]) -> bool
+    ensures { λ r. ⌜ (r ≡ true → imageOf state [] ≡ now (image .entry)) ⌝ }
+{
+    let none = [0u32; 0];
+    image_is(state, &none, image)
+}
+
+// Whether a list is these bytes, eight for each place.
+fn list_is(list: &[u64], bs: &[u8]) -> bool
+    requires { ⌜ length (now list) ≤ 512 ⌝ }
+    ensures { λ r. ⌜ (r ≡ true → now (list .entry) ≡ parts value 8 (length (now (list .entry))) (now (bs .entry))) ⌝ }
+{
+    let mut i = 0;
+    while i < list.len() {
+        if list[i] != number_at(bs, i * 8, 8) {
+            return false;
+        }
+        i += 1;
+    }
+    true
+}
