@@ -13,7 +13,7 @@ use Rattle.bits.specs.Choice.{pick}
 use Rattle.registers.specs.declared.Reply.{Reply}
 use Rattle.registers.specs.declared.Reply.the-variants as R
 use Rattle.registers.specs.declared.State.{State}
-use Rattle.registers.specs.Reply.{numberOf}
+use Rattle.registers.specs.Reply.{numberOf, isDone}
 use Rattle.machine.specs.declared.Ran.{Ran}
 use Rattle.machine.specs.Step.{runOf}
 use Rattle.walk.specs.declared.Walked.{Walked}
@@ -22,7 +22,7 @@ use Rattle.image.specs.declared.Reading.{Reading}
 use Rattle.image.specs.declared.Written.{Written}
 use Rattle.image.specs.Bytes.{value, parts, over}
 use Rattle.image.specs.Image.{imageOf}
-use Rattle.image.specs.Reading.{isDone, imageReply, stateOf, wordsOf, countOf, contentOf, wordsAt, blank, readOf, listAfter}
+use Rattle.image.specs.Reading.{imageReply, stateOf, wordsOf, countOf, contentOf, wordsAt, blank, readOf, listAfter}
 use Rattle.image.specs.Writing.{writeReply, writtenOf, bufferAfter}
 use Rattle.image.proofs.Bytes.{length-parts}
 use Rattle.vectors.specs.Records.{numberAt, block, pastBlock, ranOf, RunAgrees, ImageAgrees, walkedOf, listOf, Walks, unset, WalkAgrees}
