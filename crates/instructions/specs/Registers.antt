@@ -5,6 +5,7 @@ use Rattle.words.specs.declared.Target.{Target}
 use Rattle.words.specs.declared.Target.the-variants.{One, Pair, Counter}
 use Rattle.words.specs.declared.Instruction.{Instruction}
 use Rattle.words.specs.declared.Instruction.the-variants.{While, Saturating, IncDec, Cntp, CntpCounter, Pnext, Pfirst, Ptest, Pfalse}
+use Rattle.instructions.specs.declared.named.Operands.{Operands}
 
 -- ---- read
 
@@ -51,6 +52,10 @@ secondP (Pnext size pv pdn) = pdn
 secondP (Pfirst pg pdn) = pdn
 secondP (Ptest pg pn) = pn
 secondP (Pfalse pd) = 16
+
+-- all that are read
+abbrev pub operandsOf : Instruction → Operands
+operandsOf i = record { x = firstX i; limit = secondX i; mask = firstP i; under = secondP i }
 
 -- ---- written
 

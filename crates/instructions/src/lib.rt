@@ -10,10 +10,8 @@ mod select;
 mod write;
 
 use bits::Size;
-pub use named::first_p;
-pub use named::first_x;
-pub use named::second_p;
-pub use named::second_x;
+pub use named::Operands;
+pub use named::operands_of;
 use predicates::Predicate;
 pub use select::while_flags;
 use words::Condition;

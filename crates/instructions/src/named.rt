@@ -1,72 +1,43 @@
-// The registers that an instruction reads; X number 31 and P number 16 stand for none.
+// The registers that an instruction reads.
 use words::Instruction;
 ghost use mathlib.Core.Path.{_≡_};
-ghost use Rattle.instructions.specs.Registers.{firstX, secondX, firstP, secondP};
+ghost use Rattle.instructions.specs.Registers.{operandsOf};
 
-// The first X register that is read.
-pub fn first_x(i: Instruction) -> u8
-    ensures { λ r. ⌜ r ≡ firstX i ⌝ }
+// X number 31 and P number 16 stand for none. Every field is a whole word, so that none is packed beside another.
+pub struct Operands {
+    // The first operand of a WHILE, or the register that is moved.
+    pub x: u64,
+    // The limit of a WHILE.
+    pub limit: u64,
+    // The predicate that is counted, or the mask.
+    pub mask: u64,
+    // The predicate under the mask.
+    pub under: u64,
+}
+
+fn naming(x: u8, limit: u8, mask: u8, under: u8) -> Operands
+    ensures { λ r. ⌜ r ≡ record { x = x; limit = limit; mask = mask; under = under } ⌝ }
 {
-    match i {
-        Instruction::While { rn, .. } => rn,
-        Instruction::Saturating { rdn, .. } => rdn,
-        Instruction::IncDec { rdn, .. } => rdn,
-        Instruction::Cntp { .. } => 31,
-        Instruction::CntpCounter { .. } => 31,
-        Instruction::Pnext { .. } => 31,
-        Instruction::Pfirst { .. } => 31,
-        Instruction::Ptest { .. } => 31,
-        Instruction::Pfalse { .. } => 31,
+    Operands {
+        x: x as u64,
+        limit: limit as u64,
+        mask: mask as u64,
+        under: under as u64,
     }
 }
 
-// The second: WHILE's limit.
-pub fn second_x(i: Instruction) -> u8
-    ensures { λ r. ⌜ r ≡ secondX i ⌝ }
+pub fn operands_of(i: Instruction) -> Operands
+    ensures { λ r. ⌜ r ≡ operandsOf i ⌝ }
 {
     match i {
-        Instruction::While { rm, .. } => rm,
-        Instruction::Saturating { .. } => 31,
-        Instruction::IncDec { .. } => 31,
-        Instruction::Cntp { .. } => 31,
-        Instruction::CntpCounter { .. } => 31,
-        Instruction::Pnext { .. } => 31,
-        Instruction::Pfirst { .. } => 31,
-        Instruction::Ptest { .. } => 31,
-        Instruction::Pfalse { .. } => 31,
-    }
-}
-
-// The first P register that is read; the mask, where there is one.
-pub fn first_p(i: Instruction) -> u8
-    ensures { λ r. ⌜ r ≡ firstP i ⌝ }
-{
-    match i {
-        Instruction::While { .. } => 16,
-        Instruction::Saturating { pm, .. } => pm,
-        Instruction::IncDec { pm, .. } => pm,
-        Instruction::Cntp { pg, .. } => pg,
-        Instruction::CntpCounter { pnn, .. } => pnn,
-        Instruction::Pnext { pv, .. } => pv,
-        Instruction::Pfirst { pg, .. } => pg,
-        Instruction::Ptest { pg, .. } => pg,
-        Instruction::Pfalse { .. } => 16,
-    }
-}
-
-// The second: the predicate under the mask.
-pub fn second_p(i: Instruction) -> u8
-    ensures { λ r. ⌜ r ≡ secondP i ⌝ }
-{
-    match i {
-        Instruction::While { .. } => 16,
-        Instruction::Saturating { .. } => 16,
-        Instruction::IncDec { .. } => 16,
-        Instruction::Cntp { pn, .. } => pn,
-        Instruction::CntpCounter { .. } => 16,
-        Instruction::Pnext { pdn, .. } => pdn,
-        Instruction::Pfirst { pdn, .. } => pdn,
-        Instruction::Ptest { pn, .. } => pn,
-        Instruction::Pfalse { .. } => 16,
+        Instruction::While { rn, rm, .. } => naming(rn, rm, 16, 16),
+        Instruction::Saturating { pm, rdn, .. } => naming(rdn, 31, pm, 16),
+        Instruction::IncDec { pm, rdn, .. } => naming(rdn, 31, pm, 16),
+        Instruction::Cntp { pg, pn, .. } => naming(31, 31, pg, pn),
+        Instruction::CntpCounter { pnn, .. } => naming(31, 31, pnn, 16),
+        Instruction::Pnext { pv, pdn, .. } => naming(31, 31, pv, pdn),
+        Instruction::Pfirst { pg, pdn } => naming(31, 31, pg, pdn),
+        Instruction::Ptest { pg, pn } => naming(31, 31, pg, pn),
+        Instruction::Pfalse { .. } => naming(31, 31, 16, 16),
     }
 }

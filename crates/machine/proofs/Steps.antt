@@ -6,7 +6,7 @@ use Prim.Native.Nat.{ℕ, suc, _+_, _≤_, _<_}
 use native.Mathlib.Numerals.{add-one}
 use native.Mathlib.Omega.{arith}
 use lib.Dec.{ltb, eqb}
-use lib.ListN.{length, length-set, getD, set, drop, drop-of-length-le}
+use lib.ListN.{length, length-set, getD, set, drop, drop-of-length-le, List·getD-eq-default}
 use lib.Seq.{drop-cons}
 use borrow.Author.Tests.{eq-eqb, ne-eqb, lt-ltb, le-ltb, not-true, not-false}
 use Rattle.bits.specs.Choice.{pick}
@@ -21,15 +21,15 @@ use Rattle.registers.specs.declared.State.{State}
 use Rattle.registers.specs.Legal.{legal}
 use Rattle.registers.specs.Reply.{numberOf}
 use Rattle.registers.specs.State.{withX, withP, withFlags}
-use Rattle.registers.proofs.Registers.{Sized, withX-out, withP-out}
+use Rattle.registers.proofs.Registers.{Sized, default-any}
 use Rattle.words.specs.declared.Decoded.{Decoded}
 use Rattle.words.specs.declared.Decoded.the-variants.{Ours, Refused}
 use Rattle.words.specs.declared.Instruction.{Instruction}
-use Rattle.words.specs.declared.Instruction.the-variants.{Pfalse}
 use Rattle.words.specs.Words.{decodeOf, levelOf}
 use Rattle.instructions.specs.declared.Effect.{Effect}
 use Rattle.instructions.specs.Instructions.{computeOf}
-use Rattle.instructions.specs.Registers.{firstX, secondX, firstP, secondP}
+use Rattle.instructions.specs.declared.named.Operands.{Operands}
+use Rattle.instructions.specs.Registers.{operandsOf}
 use Rattle.machine.specs.declared.Stepped.{Stepped}
 use Rattle.machine.specs.Effect.{setFlags, apply}
 use Rattle.machine.specs.Step.{effectAt, effectOf, executeOf, admissionOf, instructionOf, answered, afterWord, stepOf, stepsOf, runOf}
@@ -44,30 +44,22 @@ pick-no : {A : Type 0} (b : Bool) (x y : A) → b ≡ false → pick b x y ≡ y
 pick-no false x y h = refl
 pick-no true x y h = never refl h
 
--- ---- a step, case by case
+-- ---- a step
 
-pub word-refused : (s : State) (d : Decoded) (r : Reply) → d ≡ Refused r → answered r s ≡ afterWord s d
+-- a word that is refused is answered with the state as it was
+pub word-stops : (s : State) (d : Decoded) (r : Reply) → r ≡ admissionOf d (s .level) (s .access) → (numberOf r ≡ 0 → ⊥) → answered r s ≡ afterWord s d
 unfolding afterWord
-word-refused s d r h = sym (ap (afterWord s) h)
+word-stops s d r e h =
+    sym (ap (λ (t : Bool). answered r (pick t (executeOf s (instructionOf d)) s)) (ne-eqb (numberOf r) 0 h))
+    ∙ ap (λ (q : Reply). answered q (pick (eqb (numberOf q) 0) (executeOf s (instructionOf d)) s)) e
 
-module _ (s : State) (d : Decoded) (i : Instruction) (ours : d ≡ Ours i) where
-  pub level-low : (n : ℕ) → n ≡ levelOf i → s .level < n → answered LevelTooLow s ≡ afterWord s d
-  unfolding afterWord
-  level-low n e l =
-      sym (ap (afterWord s) ours
-      ∙ ap (λ (t : Bool). pick t (answered LevelTooLow s) (pick (s .access) (answered Done (executeOf s i)) (answered AccessOff s))) (lt-ltb (s .level) (levelOf i) (omega arith)))
-
-  past-level : levelOf i ≤ s .level → pick (s .access) (answered Done (executeOf s i)) (answered AccessOff s) ≡ afterWord s d
-  unfolding afterWord
-  past-level l =
-      sym (ap (afterWord s) ours
-      ∙ ap (λ (t : Bool). pick t (answered LevelTooLow s) (pick (s .access) (answered Done (executeOf s i)) (answered AccessOff s))) (le-ltb (s .level) (levelOf i) l))
-
-  pub access-off : (n : ℕ) → n ≡ levelOf i → n ≤ s .level → not (s .access) ≡ true → answered AccessOff s ≡ afterWord s d
-  access-off n e l a = sym (ap (λ (t : Bool). pick t (answered Done (executeOf s i)) (answered AccessOff s)) (not-true (s .access) a)) ∙ past-level (omega arith)
-
-  pub executed : (n : ℕ) (t : State) → n ≡ levelOf i → n ≤ s .level → not (s .access) ≡ false → t ≡ executeOf s i → answered Done t ≡ afterWord s d
-  executed n t e l a h = ap (answered Done) h ∙ sym (ap (λ (b : Bool). pick b (answered Done (executeOf s i)) (answered AccessOff s)) (not-false (s .access) a)) ∙ past-level (omega arith)
+-- a word that is not is executed
+pub word-goes : (s t : State) (d : Decoded) (r : Reply) → r ≡ admissionOf d (s .level) (s .access) → numberOf r ≡ 0 → t ≡ executeOf s (instructionOf d) → answered r t ≡ afterWord s d
+unfolding afterWord
+word-goes s t d r e h x =
+    ap (answered r) x
+    ∙ sym (ap (λ (b : Bool). answered r (pick b (executeOf s (instructionOf d)) s)) (eq-eqb (numberOf r) 0 h))
+    ∙ ap (λ (q : Reply). answered q (pick (eqb (numberOf q) 0) (executeOf s (instructionOf d)) s)) e
 
 pub step-illegal : (s : State) (w : ℕ) (t : Bool) → t ≡ legal s → t ≡ false → answered IllegalState s ≡ stepOf s w
 unfolding stepOf
@@ -85,13 +77,11 @@ pub record Kept (s : State) : Type 0 where
 
 pub after-kept : (s : State) (d : Decoded) → Kept s → Kept (afterWord s d .state)
 unfolding afterWord executeOf
-after-kept s (Refused r) k = k
-after-kept s (Ours i) k = go (ltb (s .level) (levelOf i)) (s .access)
+after-kept s d k = go (eqb (numberOf (admissionOf d (s .level) (s .access))) 0)
   where
-    go : (t a : Bool) → Kept (pick t (answered LevelTooLow s) (pick a (answered Done (executeOf s i)) (answered AccessOff s)) .state)
-    go true a = k
-    go false true = record { legal-is = execute-legal s i (k .sized) (k .legal-is); sized = apply-sized s (effectOf s i) (k .sized) }
-    go false false = k
+    go : (b : Bool) → Kept (pick b (executeOf s (instructionOf d)) s)
+    go true = record { legal-is = execute-legal s (instructionOf d) (k .sized) (k .legal-is); sized = apply-sized s (effectOf s (instructionOf d)) (k .sized) }
+    go false = k
 
 -- the same of an answer
 pub kept-on : (s : State) (d : Decoded) (t : Stepped) → Kept s → t ≡ afterWord s d → Kept (t .state)
@@ -137,21 +127,13 @@ pub run-legal : (s : State) (ws : List ℕ) → legal s ≡ true → stepsOf 0 s
 unfolding runOf
 run-legal s ws e = sym (ap (λ (b : Bool). pick b (stepsOf 0 s ws) (record { done = 0; reply = IllegalState; state = s })) e)
 
--- PFALSE of a register past the last writes nothing
-nothing-written : (s : State) → Sized s → executeOf s (Pfalse 16) ≡ s
-unfolding executeOf effectOf computeOf apply setFlags
-nothing-written s z =
-    let a = withX-out s 31 0 (omega (arith, z .xs)) in
-    let b = withP-out s 16 allFalse (omega (arith, z .ps)) in
-    ap (λ (t : State). withP (withP t 16 allFalse) 16 allFalse) (sym a) ∙ ap (λ (t : State). withP t 16 allFalse) (sym b) ∙ sym b
-
 -- ---- an instruction, from the values that were read
 
-pub effects : (xs : List ℕ) (ps : List Predicate) (vl : ℕ) (i : Instruction) (x y a b p q : ℕ) (g h : Predicate) (e : Effect) → x ≡ firstX i → a ≡ getD xs x 0 → y ≡ secondX i → b ≡ getD xs y 0
-    → p ≡ firstP i → g ≡ getD ps p allFalse → q ≡ secondP i → h ≡ getD ps q allFalse → e ≡ computeOf i a b g h vl → e ≡ effectAt xs ps vl i
-effects xs ps vl i x y a b p q g h e ex ea ey eb ep eg eq eh ee =
-    ee ∙ ap₂ (λ (u v : ℕ). computeOf i u v g h vl) (ea ∙ ap (λ (r : ℕ). getD xs r 0) ex) (eb ∙ ap (λ (r : ℕ). getD xs r 0) ey)
-    ∙ ap₂ (λ (u v : Predicate). computeOf i (getD xs (firstX i) 0) (getD xs (secondX i) 0) u v vl) (eg ∙ ap (λ (r : ℕ). getD ps r allFalse) ep) (eh ∙ ap (λ (r : ℕ). getD ps r allFalse) eq)
+pub effects : (xs : List ℕ) (ps : List Predicate) (vl : ℕ) (i : Instruction) (o : Operands) (a b : ℕ) (g q : Predicate) (e : Effect) → o ≡ operandsOf i
+    → a ≡ getD xs (o .x) 0 → b ≡ getD xs (o .limit) 0 → g ≡ getD ps (o .mask) allFalse → q ≡ getD ps (o .under) allFalse → e ≡ computeOf i a b g q vl → e ≡ effectAt xs ps vl i
+effects xs ps vl i o a b g q e eo ea eb eg eq ee =
+    ee ∙ ap₂ (λ (u v : ℕ). computeOf i u v g q vl) ea eb ∙ ap₂ (λ (u v : Predicate). computeOf i (getD xs (o .x) 0) (getD xs (o .limit) 0) u v vl) eg eq
+    ∙ ap (λ (n : Operands). computeOf i (getD xs (n .x) 0) (getD xs (n .limit) 0) (getD ps (n .mask) allFalse) (getD ps (n .under) allFalse) vl) eo
 
 pub executes : (s r : State) (i : Instruction) (e : Effect) → e ≡ effectAt (s .x) (s .p) (s .vl) i → r ≡ apply s e → r ≡ executeOf s i
 unfolding executeOf effectOf
@@ -175,30 +157,14 @@ module _ (d : Decoded) (i : Instruction) (ours : d ≡ Ours i) (n level : ℕ) (
   pub admitted : n ≤ level → not access ≡ false → Done ≡ admissionOf d level access
   admitted l a = sym (admitted-level l ∙ ap (λ (t : Bool). pick t Done AccessOff) (not-false access a))
 
--- a word that is not admitted is answered with the state as it was
-pub word-stops : (s : State) (d : Decoded) → (numberOf (admissionOf d (s .level) (s .access)) ≡ 0 → ⊥) → answered (admissionOf d (s .level) (s .access)) s ≡ afterWord s d
-unfolding afterWord
-word-stops s (Refused r) h = refl
-word-stops s (Ours i) h = go (ltb (s .level) (levelOf i)) (s .access) h
-  where
-    go : (l a : Bool) → (numberOf (pick l LevelTooLow (pick a Done AccessOff)) ≡ 0 → ⊥)
-        → answered (pick l LevelTooLow (pick a Done AccessOff)) s ≡ pick l (answered LevelTooLow s) (pick a (answered Done (executeOf s i)) (answered AccessOff s))
-    go true a h = refl
-    go false true h = absurd (h refl)
-    go false false h = refl
+-- ---- a P register read in place; one past the last is all false
 
--- a word that is admitted is executed
-pub word-goes : (s : State) (d : Decoded) → Sized s → numberOf (admissionOf d (s .level) (s .access)) ≡ 0
-    → answered (admissionOf d (s .level) (s .access)) (executeOf s (instructionOf d)) ≡ afterWord s d
-unfolding afterWord
-word-goes s (Refused r) z h = ap (answered r) (nothing-written s z)
-word-goes s (Ours i) z h = go (ltb (s .level) (levelOf i)) (s .access) h
-  where
-    go : (l a : Bool) → numberOf (pick l LevelTooLow (pick a Done AccessOff)) ≡ 0
-        → answered (pick l LevelTooLow (pick a Done AccessOff)) (executeOf s i) ≡ pick l (answered LevelTooLow s) (pick a (answered Done (executeOf s i)) (answered AccessOff s))
-    go true a h = absurd (omega arith)
-    go false true h = refl
-    go false false h = absurd (omega arith)
+module _ (s : State) (r : ℕ) (z : Sized s) where
+  pub p-read : (q : Predicate) → r < 16 → getD (s .p) r q ≡ getD (s .p) r allFalse
+  p-read q h = default-any (s .p) r q allFalse (omega (arith, z .ps))
+
+  pub p-unread : 16 ≤ r → allFalse ≡ getD (s .p) r allFalse
+  p-unread h = sym (List·getD-eq-default (s .p) allFalse {n = r} (omega (arith, z .ps)))
 
 -- ---- an effect written in place, register by register
 

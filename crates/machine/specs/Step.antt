@@ -2,7 +2,7 @@
 use Prim.Native.Nat.{ℕ, suc}
 use mathlib.Core.Bool.{Bool}
 use mathlib.Core.List.{List, [], _∷_}
-use lib.Dec.{ltb, eqb}
+use lib.Dec.{ltb}
 use lib.ListN.{getD}
 use Rattle.predicates.specs.declared.Predicate.{Predicate}
 use Rattle.predicates.specs.Predicate.{allFalse}
@@ -12,7 +12,7 @@ use Rattle.registers.specs.declared.Reply.{Reply}
 use Rattle.registers.specs.declared.Reply.the-variants.{Done, LevelTooLow, AccessOff, IllegalState}
 use Rattle.registers.specs.declared.State.{State}
 use Rattle.registers.specs.Legal.{legal}
-use Rattle.registers.specs.Reply.{numberOf}
+use Rattle.registers.specs.Reply.{isDone}
 use Rattle.words.specs.declared.Decoded.{Decoded}
 use Rattle.words.specs.declared.Decoded.the-variants.{Ours, Refused}
 use Rattle.words.specs.declared.Instruction.{Instruction}
@@ -34,23 +34,24 @@ effectOf s i = effectAt (s .x) (s .p) (s .vl) i
 unfoldable pub executeOf : State → Instruction → State
 executeOf s i = apply s (effectOf s i)
 
--- a refusal returns the state that it was given
-abbrev pub answered : Reply → State → Stepped
-answered r s = record { reply = r; state = s }
-
--- the refusals 1, 2 and 3, in this order, and then the instruction
-unfoldable pub afterWord : State → Decoded → Stepped
-afterWord s (Refused r) = answered r s
-afterWord s (Ours i) = pick (ltb (s .level) (levelOf i)) (answered LevelTooLow s) (pick (s .access) (answered Done (executeOf s i)) (answered AccessOff s))
-
--- the reply to a word by itself, and the instruction that it is; for a refused word one that writes nothing
+-- the reply to a word: the refusals 1, 2 and 3, in this order, or `Done`
 abbrev pub admissionOf : Decoded → ℕ → Bool → Reply
 admissionOf (Refused r) level access = r
 admissionOf (Ours i) level access = pick (ltb level (levelOf i)) LevelTooLow (pick access Done AccessOff)
 
+-- the instruction that a word is; for a refused word, which is not executed, one that writes nothing
 abbrev pub instructionOf : Decoded → Instruction
 instructionOf (Refused r) = Pfalse 16
 instructionOf (Ours i) = i
+
+abbrev pub answered : Reply → State → Stepped
+answered r s = record { reply = r; state = s }
+
+-- a word that nothing refuses is executed; a refusal returns the state that it was given
+unfoldable pub afterWord : State → Decoded → Stepped
+afterWord s d =
+    let r = admissionOf d (s .level) (s .access) in
+    answered r (pick (isDone r) (executeOf s (instructionOf d)) s)
 
 -- 4 comes first
 unfoldable pub stepOf : State → ℕ → Stepped
@@ -61,7 +62,7 @@ unfoldable pub stepsOf : ℕ → State → List ℕ → Ran
 stepsOf done s [] = record { done = done; reply = Done; state = s }
 stepsOf done s (w ∷ ws) =
     let t = stepOf s w in
-    pick (eqb (numberOf (t .reply)) 0) (stepsOf (suc done) (t .state) ws) (record { done = done; reply = t .reply; state = t .state })
+    pick (isDone (t .reply)) (stepsOf (suc done) (t .state) ws) (record { done = done; reply = t .reply; state = t .state })
 
 -- a run refuses an illegal state, whatever the words
 unfoldable pub runOf : State → List ℕ → Ran

@@ -1,9 +1,11 @@
 // The machine: an effect written to the register state, a step, and a run of steps.
 ghost use mathlib.Core.Path.{_≡_};
+ghost use mathlib.Core.Bool.{true};
 ghost use Rattle.machine.specs.Effect.{setFlags, apply as applyOf};
 ghost use lib.ListN.{getD};
+ghost use Rattle.registers.specs.Legal.{legal};
 ghost use Rattle.predicates.specs.Predicate.{allFalse};
-ghost use Rattle.machine.specs.Step.{effectAt, executeOf, admissionOf, instructionOf, afterWord, stepOf, runOf};
+ghost use Rattle.machine.specs.Step.{effectAt, executeOf, admissionOf, instructionOf, afterWord, stepOf, stepsOf, runOf};
 use instructions::Effect;
 use predicates::Flags;
 use predicates::Predicate;
@@ -48,7 +50,7 @@ impl Machine {
     pub fn run(self, words: &[u32]) -> Ran
         ensures { λ r. ⌜ r ≡ runOf (self .state) (now (words .entry)) ⌝ }
     {
-        let mut state = self.state;
+        let state = self.state;
         if !state.is_legal() {
             return Ran {
                 done: 0,
@@ -56,68 +58,68 @@ impl Machine {
                 state,
             };
         }
-        let mut done = 0;
-        while done < words.len() {
-            let decoded = words::decode(words[done]);
-            let reply = admission(decoded, state.level, state.access);
-            if reply.number() != 0 {
-                return Ran { done, reply, state };
-            }
-            let x = state.x;
-            let p = state.p;
-            let e = effect(instruction(decoded), x, p, state.vl);
-            if e.flags < 16 {
-                state.flags = Flags::of(e.flags);
-            }
-            if e.x < 31 {
-                state.x[e.x as usize] = e.value;
-            }
-            if e.p < 16 {
-                let q = e.predicate;
-                state.p[e.p as usize] = q;
-            }
-            if e.second < 16 {
-                let q = e.other;
-                state.p[e.second as usize] = q;
-            }
-            done += 1;
-        }
-        Ran {
-            done,
-            reply: Reply::Done,
-            state,
-        }
+        run_legal(state, words)
     }
+}
+
+// A run of a state that is known to be legal. Registers are read and written in place.
+fn run_legal(mut state: State, words: &[u32]) -> Ran
+    requires { ⌜ legal state ≡ true ⌝ }
+    ensures { λ r. ⌜ r ≡ stepsOf 0 state (now (words .entry)) ⌝ }
+{
+    let mut done = 0;
+    while done < words.len() {
+        let decoded = words::decode(words[done]);
+        let reply = admission(decoded, state.level, state.access);
+        if reply.number() != 0 {
+            return Ran { done, reply, state };
+        }
+        let i = instruction(decoded);
+        let from = instructions::operands_of(i);
+        let a = x_at(&state.x, from.x);
+        let b = x_at(&state.x, from.limit);
+        let mut g = Predicate::none();
+        if from.mask < 16 {
+            g = state.p[from.mask as usize];
+        }
+        let mut q = Predicate::none();
+        if from.under < 16 {
+            q = state.p[from.under as usize];
+        }
+        let e = instructions::compute(i, a, b, g, q, state.vl);
+        if e.flags < 16 {
+            state.flags = Flags::of(e.flags);
+        }
+        if e.x < 31 {
+            state.x[e.x as usize] = e.value;
+        }
+        if e.p < 16 {
+            let predicate = e.predicate;
+            state.p[e.p as usize] = predicate;
+        }
+        if e.second < 16 {
+            let other = e.other;
+            state.p[e.second as usize] = other;
+        }
+        done += 1;
+    }
+    let reply = Reply::Done;
+    Ran { done, reply, state }
 }
 
 // A step of a state that is known to be legal.
 pub fn after_word(state: State, decoded: Decoded) -> Stepped
     ensures { λ r. ⌜ r ≡ afterWord state decoded ⌝ }
 {
-    match decoded {
-        Decoded::Refused(reply) => Stepped { reply, state },
-        Decoded::Ours(i) => {
-            if state.level < words::level(i) {
-                return Stepped {
-                    reply: Reply::LevelTooLow,
-                    state,
-                };
-            }
-            if !state.access {
-                return Stepped {
-                    reply: Reply::AccessOff,
-                    state,
-                };
-            }
-            Stepped {
-                reply: Reply::Done,
-                state: execute(state, i),
-            }
-        }
+    let reply = admission(decoded, state.level, state.access);
+    if reply.number() != 0 {
+        return Stepped { reply, state };
     }
+    let next = execute(state, instruction(decoded));
+    Stepped { reply, state: next }
 }
 
-// The reply to a word at a level, before anything is done.
+// The reply to a word: the refusals 1, 2 and 3, in this order, or `Done`.
 fn admission(decoded: Decoded, level: u8, access: bool) -> Reply
     ensures { λ r. ⌜ r ≡ admissionOf decoded level access ⌝ }
 {
@@ -135,7 +137,7 @@ fn admission(decoded: Decoded, level: u8, access: bool) -> Reply
     }
 }
 
-// The instruction that a word is; for a refused word one that writes nothing.
+// The instruction that a word is; for a refused word, which is not executed, one that writes nothing.
 fn instruction(decoded: Decoded) -> Instruction
     ensures { λ r. ⌜ r ≡ instructionOf decoded ⌝ }
 {
@@ -149,20 +151,22 @@ fn instruction(decoded: Decoded) -> Instruction
 fn effect(i: Instruction, x: [u64; 31], p: [Predicate; 16], vl: u64) -> Effect
     ensures { λ r. ⌜ r ≡ effectAt x p vl i ⌝ }
 {
-    let a = x_at(x, instructions::first_x(i));
-    let b = x_at(x, instructions::second_x(i));
-    let g = p_at(p, instructions::first_p(i));
-    let q = p_at(p, instructions::second_p(i));
+    let from = instructions::operands_of(i);
+    let a = x_at(&x, from.x);
+    let b = x_at(&x, from.limit);
+    let g = p_at(p, from.mask);
+    let q = p_at(p, from.under);
     instructions::compute(i, a, b, g, q, vl)
 }
 
-fn x_at(x: [u64; 31], r: u8) -> u64
-    ensures { λ v. ⌜ v ≡ getD x r 0 ⌝ }
+fn x_at(x: &[u64], r: u64) -> u64
+    ensures { λ v. ⌜ v ≡ getD (now (x .entry)) r 0 ⌝ }
 {
-    if r < 31 { x[r as usize] } else { 0 }
+    let i = r as usize;
+    if i < x.len() { x[i] } else { 0 }
 }
 
-fn p_at(p: [Predicate; 16], r: u8) -> Predicate
+fn p_at(p: [Predicate; 16], r: u64) -> Predicate
     ensures { λ q. ⌜ q ≡ getD p r allFalse ⌝ }
 {
     if r < 16 {

@@ -212,7 +212,11 @@ impl Predicate {
     pub fn span(size: Size, from: u64, to: u64) -> Predicate
         ensures { λ r. ⌜ r ≡ spanOf (shift size) from to ⌝ }
     {
-        Predicate::first(size, to).and_not(Predicate::first(size, from))
+        let end = Predicate::first(size, to);
+        if from == 0 {
+            return end;
+        }
+        end.and_not(Predicate::first(size, from))
     }
 
     // Every element of a vector active.

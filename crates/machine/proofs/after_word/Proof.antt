@@ -1,42 +1,38 @@
--- `after_word` meets its contract: the refusals 1, 2, 3 and the instruction. Assumes nothing.
+-- `after_word` meets its contract. Assumes nothing.
+use mathlib.Core.Path.{sym, ap, _∙_}
 use borrow.Author.Needs.{needs}
-use Rattle.machine.proofs.Steps.{word-refused, level-low, access-off, executed}
+use Rattle.machine.specs.Step.{executeOf}
+use Rattle.machine.proofs.Steps.{word-stops, word-goes}
 use Rattle.machine.proofs.after_word.Statement.{statement}
 use Rattle.machine.proofs.after_word.Tie as tie
 
-enum-known-decoded : tie.Need-enum-known-decoded
-enum-known-decoded c = search needs
+admission-requires : tie.Need-admission-requires
+admission-requires c κs = search needs
 
-enum-known-decoded-2 : tie.Need-enum-known-decoded-2
-enum-known-decoded-2 c = search needs
-
-level-requires : tie.Need-level-requires
-level-requires c κs = search needs
+number-requires : tie.Need-number-requires
+number-requires c κs = search needs
 
 returns : tie.Need-returns
-returns c = search (level-low, needs)
+returns c = word-stops (c .before .before .before .args .state) (c .before .before .before .args .decoded) _ (c .before .before .admission .ensures) (λ z. c .if1 .taken (c .before .number .ensures ∙ z))
 
-returns-2 : tie.Need-returns-2
-returns-2 c = search (access-off, needs)
+instruction-requires : tie.Need-instruction-requires
+instruction-requires c κs = search needs
 
 execute-requires : tie.Need-execute-requires
 execute-requires c κs = search needs
 
-returns-3 : tie.Need-returns-3
-returns-3 c = search (word-refused, needs)
-
-returns-4 : tie.Need-returns-4
-returns-4 c = search (executed, needs)
+returns-2 : tie.Need-returns-2
+returns-2 c =
+    let s = c .before .before .before .before .before .args .state in
+    word-goes s _ (c .before .before .before .before .before .args .decoded) _ (c .before .before .before .before .admission .ensures) (sym (c .before .before .before .number .ensures) ∙ c .before .before .if1 .left) (c .execute .ensures ∙ ap (executeOf s) (c .before .instruction .ensures))
 
 pub after-word-spec : {M : Type 1} → statement M
 after-word-spec =
     tie.close
     (tie.spec
-    enum-known-decoded
-    enum-known-decoded-2
-    level-requires
+    admission-requires
+    number-requires
     returns
-    returns-2
+    instruction-requires
     execute-requires
-    returns-3
-    returns-4)
+    returns-2)

@@ -1,7 +1,8 @@
 -- `x_at` meets its contract. Assumes nothing.
-use mathlib.Core.Path.{_≡_, sym}
+use mathlib.Core.Path.{sym}
 use native.Mathlib.Omega.{arith}
-use lib.ListN.{length, List·getD-eq-default}
+use lib.ListN.{List·getD-eq-default}
+use denote.Ref.{now}
 use borrow.Author.Needs.{needs}
 use Rattle.machine.proofs.x_at.Statement.{statement}
 use Rattle.machine.proofs.x_at.Tie as tie
@@ -9,14 +10,14 @@ use Rattle.machine.proofs.x_at.Tie as tie
 mul-result : tie.Need-mul-result
 mul-result c = search needs
 
-array-read-result : tie.Need-array-read-result
-array-read-result c = search needs
+shared-slice-read-result : tie.Need-shared-slice-read-result
+shared-slice-read-result c = search needs
 
 returns : tie.Need-returns
 returns c = search needs
 
 returns-2 : tie.Need-returns-2
-returns-2 c = let l : length (c .before .args .t1) ≡ 31 = search needs in sym (List·getD-eq-default (c .before .args .t1) 0 {n = c .before .args .r} (omega arith))
+returns-2 c = sym (List·getD-eq-default (now (c .before .args .x)) 0 {n = c .before .args .r} (omega arith))
 
 pub x-at-spec : {M : Type 1} → statement M
-x-at-spec = tie.close (tie.spec mul-result array-read-result returns returns-2)
+x-at-spec = tie.close (tie.spec mul-result shared-slice-read-result returns returns-2)
