@@ -51,7 +51,7 @@ pub fn cntp(size: Size, rd: u8, g: Predicate, n: Predicate, vl: u64) -> Effect
 pub fn cntp_counter(four: bool, size: Size, rd: u8, pn: Predicate, vl: u64) -> Effect
     ensures { λ e. ⌜ e ≡ cntpCounter four size rd pn vl ⌝ }
 {
-    let g = group(four, predicates::elements(vl, size));
+    let g = group(four, vl, size);
     writes_x(rd, count_expanded(pn, size, g, vl))
 }
 

@@ -26,6 +26,7 @@ fn naming(x: u8, limit: u8, mask: u8, under: u8) -> Operands
     }
 }
 
+// The numbers of the registers that an instruction reads.
 pub fn operands_of(i: Instruction) -> Operands
     ensures { λ r. ⌜ r ≡ operandsOf i ⌝ }
 {

@@ -10,6 +10,7 @@ ghost use Prim.Native.Nat.{_+_, _-_, _*_, _≤_, min};
 ghost use lib.Dec.{eqb};
 ghost use Rattle.bits.specs.Choice.{pick};
 ghost use Rattle.bits.specs.Size.{shift};
+ghost use Rattle.predicates.specs.Predicate.{elements};
 ghost use Rattle.predicates.specs.PredTest.{nzcv};
 ghost use Rattle.instructions.specs.Counter.{counterOf, counterFlags, stored};
 ghost use Rattle.instructions.specs.Instructions.{whileOne, whilePair, whileCounter, groupOf};
@@ -117,10 +118,10 @@ pub fn while_pair(
 }
 
 // The elements of two vectors, or of four.
-pub fn group(four: bool, n: u64) -> u64
-    requires { ⌜ n ≤ 256 ⌝ }
-    ensures { λ r. ⌜ r ≡ groupOf four n ⌝ }
+pub fn group(four: bool, vl: u64, size: Size) -> u64
+    ensures { λ r. ⌜ r ≡ groupOf four (elements vl size) ⌝ }
 {
+    let n = predicates::elements(vl, size);
     if four {
         return 4 * n;
     }
@@ -173,7 +174,7 @@ pub fn while_counter(
 ) -> Effect
     ensures { λ e. ⌜ e ≡ whileCounter condition unsigned four pnd size a b vl ⌝ }
 {
-    let g = group(four, predicates::elements(vl, size));
+    let g = group(four, vl, size);
     let n = scalars::held(condition, unsigned, true, a, b, g);
     let up = scalars::counts_up(condition);
     let q = Predicate::of_word(counter(up, g, n, size));

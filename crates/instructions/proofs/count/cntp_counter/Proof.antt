@@ -5,24 +5,22 @@ use native.Mathlib.Omega.{arith}
 use borrow.Author.Needs.{needs}
 use Rattle.bits.specs.Search.{count}
 use Rattle.bits.specs.Size.{shift}
+use Rattle.predicates.specs.Predicate.{elements}
 use Rattle.predicates.proofs.Live.{elements-le}
 use Rattle.instructions.specs.Counter.{expanded}
-use Rattle.instructions.specs.Instructions.{cntpCounter, groupOf}
+use Rattle.instructions.specs.Instructions.{cntpCounter}
 use Rattle.instructions.proofs.Counters.{group-le}
 use Rattle.instructions.proofs.Effects.{x-is}
 use Rattle.instructions.proofs.count.cntp_counter.Statement.{statement}
 use Rattle.instructions.proofs.count.cntp_counter.Tie as tie
 
-elements-requires : tie.Need-elements-requires
-elements-requires c κs = search needs
-
 group-requires : tie.Need-group-requires
-group-requires c κs = omega (arith, c .elements .ensures, elements-le (c .before .args .vl) (c .before .args .size))
+group-requires c κs = search needs
 
 count-expanded-requires : tie.Need-count-expanded-requires
 count-expanded-requires c κs =
-    let s = c .before .before in
-    omega (arith, c .group .ensures, group-le (s .args .four) (c .before .elements .result) (omega (arith, c .before .elements .ensures, elements-le (s .args .vl) (s .args .size))))
+    let a = c .before .args in
+    omega (arith, c .group .ensures, group-le (a .four) (elements (a .vl) (a .size)) (elements-le (a .vl) (a .size)))
 
 writes-x-requires : tie.Need-writes-x-requires
 writes-x-requires c κs = search needs
@@ -30,12 +28,12 @@ writes-x-requires c κs = search needs
 returns : tie.Need-returns
 unfolding cntpCounter
 returns c =
-    let s = c .before .before .before .before in
+    let s = c .before .before .before in
     x-is _ _ _ _ (c .writes-x .ensures)
     (c .before .count-expanded .ensures
-    ∙ ap (count (λ e. expanded (s .args .vl) (s .args .pn) (e * 2 ^ shift (s .args .size)))) (c .before .before .group .ensures ∙ ap (groupOf (s .args .four)) (c .before .before .before .elements .ensures)))
+    ∙ ap (count (λ e. expanded (s .args .vl) (s .args .pn) (e * 2 ^ shift (s .args .size)))) (c .before .before .group .ensures))
 
 pub cntp-counter-spec : {M : Type 1} → statement M
 cntp-counter-spec =
     tie.close
-    (tie.spec elements-requires group-requires count-expanded-requires writes-x-requires returns)
+    (tie.spec group-requires count-expanded-requires writes-x-requires returns)

@@ -21,11 +21,8 @@ use Rattle.instructions.proofs.Whiles.{held-le}
 use Rattle.instructions.proofs.select.while_counter.Statement.{statement}
 use Rattle.instructions.proofs.select.while_counter.Tie as tie
 
-elements-requires : tie.Need-elements-requires
-elements-requires c κs = search needs
-
 group-requires : tie.Need-group-requires
-group-requires c κs = omega (arith, c .elements .ensures, elements-le (c .before .args .vl) (c .before .args .size))
+group-requires c κs = search needs
 
 held-requires : tie.Need-held-requires
 held-requires c κs = search needs
@@ -35,10 +32,9 @@ counts-up-requires c κs = search needs
 
 counter-requires : tie.Need-counter-requires
 counter-requires c κs =
-    let s = c .before .before .before .before in
-    let n = c .before .before .before .elements .result in (
+    let s = c .before .before .before in (
       omega (arith, held-le (comparison w64 (s .args .unsigned) (s .args .condition) (lowOf w64 (s .args .a)) (lowOf w64 (s .args .b))) (c .before .before .group .result), c .before .held .ensures),
-      omega (arith, c .before .before .group .ensures, group-le (s .args .four) n (omega (arith, c .before .before .before .elements .ensures, elements-le (s .args .vl) (s .args .size)))),
+      omega (arith, c .before .before .group .ensures, group-le (s .args .four) (elements (s .args .vl) (s .args .size)) (elements-le (s .args .vl) (s .args .size))),
     )
 
 of-word-requires : tie.Need-of-word-requires
@@ -56,12 +52,12 @@ writes-p-requires c κs = search needs
 returns : tie.Need-returns
 unfolding whileCounter
 returns c =
-    let s = c .before .before .before .before .before .before .before .before in
+    let s = c .before .before .before .before .before .before .before in
     let k = shift (s .args .size) in
     let u = upward (s .args .condition) in
     let up : c .before .before .before .before .counts-up .result ≡ u = c .before .before .before .before .counts-up .ensures in
     let g : c .before .before .before .before .before .before .group .result ≡ groupOf (s .args .four) (elements (s .args .vl) (s .args .size)) =
-    c .before .before .before .before .before .before .group .ensures ∙ ap (groupOf (s .args .four)) (c .before .before .before .before .before .before .before .elements .ensures) in
+    c .before .before .before .before .before .before .group .ensures in
     let held = comparison w64 (s .args .unsigned) (s .args .condition) (s .args .a) (s .args .b) in
     let n : c .before .before .before .before .before .held .result ≡ heldOf held (groupOf (s .args .four) (elements (s .args .vl) (s .args .size))) =
     c .before .before .before .before .before .held .ensures
@@ -80,7 +76,6 @@ pub while-counter-spec : {M : Type 1} → statement M
 while-counter-spec =
     tie.close
     (tie.spec
-    elements-requires
     group-requires
     held-requires
     counts-up-requires
