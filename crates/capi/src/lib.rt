@@ -8,13 +8,11 @@ ghost use Rattle.image.specs.Reading.{readOf, listAfter};
 ghost use Rattle.image.specs.Writing.{writtenOf, bufferAfter};
 ghost use Rattle.transcript.specs.Transcript.{transcriptOf, afterAll, placedAll};
 ghost use Rattle.capi.specs.Answers.{ranAs, walkedAs, readAs, writtenAs};
-ghost use Rattle.capi.specs.Rows.{decodedReply, decodedRow, encodedReply, encodedWord};
+ghost use Rattle.rows.specs.Rows.{decodedReply, decodedRow, encodedReply, encodedWord};
 use machine::Machine;
 use registers::State;
 use words::Decoded;
 use words::Encoded;
-
-mod rows;
 
 #[repr(C)]
 pub struct Ran {

@@ -1,5 +1,5 @@
 -- `plokamyr_encode` meets its contract. Assumes nothing.
-use Rattle.capi.proofs.RowLaws.{to-row, after-row}
+use Rattle.rows.proofs.RowLaws.{to-row, after-row}
 use borrow.Author.Needs.{needs}
 use Rattle.capi.proofs.plokamyr_encode.Statement.{statement}
 use Rattle.capi.proofs.plokamyr_encode.Tie as tie

@@ -1,8 +1,8 @@
 -- `rows::while_row` meets its contract. Assumes nothing.
-use Rattle.capi.proofs.RowLaws.{while-as, nine}
+use Rattle.rows.proofs.RowLaws.{while-as, nine}
 use borrow.Author.Needs.{needs}
-use Rattle.capi.proofs.rows.while_row.Statement.{statement}
-use Rattle.capi.proofs.rows.while_row.Tie as tie
+use Rattle.rows.proofs.while_row.Statement.{statement}
+use Rattle.rows.proofs.while_row.Tie as tie
 
 size-number-requires : tie.Need-size-number-requires
 size-number-requires c κs = search needs

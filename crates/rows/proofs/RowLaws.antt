@@ -23,7 +23,7 @@ use Rattle.words.specs.declared.Instruction.the-variants.{While}
 use Rattle.words.specs.declared.Decoded.{Decoded}
 use Rattle.words.specs.declared.Encoded.{Encoded}
 use Rattle.words.specs.declared.Encoded.the-variants as Enc
-use Rattle.capi.specs.Rows.{formAt, rowOf, numbersAt, instructionAt, replyTo, rowAfter, decodedReply, decodedRow, same, encodedAs, replyWith, wordAfter, encodedReply, encodedWord}
+use Rattle.rows.specs.Rows.{formAt, rowOf, numbersAt, instructionAt, replyTo, rowAfter, decodedReply, decodedRow, same, encodedAs, replyWith, wordAfter, encodedReply, encodedWord}
 
 -- the row of an instruction that is known by its form, and of a WHILE that is known by its target
 pub row-as : {i j : Instruction} {row : List ℕ} → i ≡ j → row ≡ rowOf j → row ≡ rowOf i

@@ -9,7 +9,7 @@ ghost use mathlib.Core.Path.{_≡_};
 ghost use Rattle.bits.specs.Choice.{digit};
 ghost use Rattle.bits.specs.Size.{shift};
 ghost use Rattle.words.specs.Words.{Form, sizeOf, conditionOf, ltBit, eqBit, flag, build};
-ghost use Rattle.capi.specs.Rows.{rowOf, numbersAt, instructionAt, same, encodedAs};
+ghost use Rattle.rows.specs.Rows.{rowOf, numbersAt, instructionAt, same, encodedAs};
 
 fn bit_of(b: bool) -> u8
     ensures { λ r. ⌜ r ≡ digit b ⌝ }

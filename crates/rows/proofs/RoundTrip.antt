@@ -20,8 +20,8 @@ use Rattle.words.proofs.Codec.{both}
 use Rattle.words.proofs.Fields.{build-fields}
 use Rattle.words.proofs.RoundTrip.{decode-encode, encode-decode}
 use Rattle.words.proofs.Examples.{whilele, example-14-read}
-use Rattle.capi.specs.Rows.{rowOf, instructionAt, replyTo, rowAfter, decodedReply, decodedRow, same, encodedAs, replyWith, wordAfter, encodedReply, encodedWord}
-use Rattle.capi.proofs.RowLaws.{as-word}
+use Rattle.rows.specs.Rows.{rowOf, instructionAt, replyTo, rowAfter, decodedReply, decodedRow, same, encodedAs, replyWith, wordAfter, encodedReply, encodedWord}
+use Rattle.rows.proofs.RowLaws.{as-word}
 
 -- an instruction's row builds it
 pub row-instruction : (i : Instruction) → instructionAt (rowOf i) ≡ i

@@ -1,8 +1,8 @@
 -- `rows::instruction_at` meets its contract. Assumes nothing.
-use Rattle.capi.proofs.RowLaws.{at-form, past-forms}
+use Rattle.rows.proofs.RowLaws.{at-form, past-forms}
 use borrow.Author.Needs.{needs}
-use Rattle.capi.proofs.rows.instruction_at.Statement.{statement}
-use Rattle.capi.proofs.rows.instruction_at.Tie as tie
+use Rattle.rows.proofs.instruction_at.Statement.{statement}
+use Rattle.rows.proofs.instruction_at.Tie as tie
 
 array-read-match : tie.Need-array-read-match
 array-read-match c = search needs

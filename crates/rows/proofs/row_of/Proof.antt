@@ -1,8 +1,8 @@
 -- `rows::row_of` meets its contract. Assumes nothing.
-use Rattle.capi.proofs.RowLaws.{row-as}
+use Rattle.rows.proofs.RowLaws.{row-as}
 use borrow.Author.Needs.{needs}
-use Rattle.capi.proofs.rows.row_of.Statement.{statement}
-use Rattle.capi.proofs.rows.row_of.Tie as tie
+use Rattle.rows.proofs.row_of.Statement.{statement}
+use Rattle.rows.proofs.row_of.Tie as tie
 
 enum-known-i : tie.Need-enum-known-i
 enum-known-i c = search needs

@@ -1,8 +1,8 @@
 -- `rows::encoded` meets its contract. Assumes nothing.
-use Rattle.capi.proofs.RowLaws.{as-word, as-refused}
+use Rattle.rows.proofs.RowLaws.{as-word, as-refused}
 use borrow.Author.Needs.{needs}
-use Rattle.capi.proofs.rows.encoded.Statement.{statement}
-use Rattle.capi.proofs.rows.encoded.Tie as tie
+use Rattle.rows.proofs.encoded.Statement.{statement}
+use Rattle.rows.proofs.encoded.Tie as tie
 
 instruction-at-requires : tie.Need-instruction-at-requires
 instruction-at-requires c κs = search needs

@@ -1,12 +1,12 @@
 -- `rows::same_row` meets its contract. Assumes nothing.
 use Prim.Native.Nat.{_≤_, _-_}
 use mathlib.Core.Path.{_≡_, refl}
-use Rattle.capi.proofs.RowLaws.{same-more, differ, same-whole}
+use Rattle.rows.proofs.RowLaws.{same-more, differ, same-whole}
 use borrow.Author.Needs.{needs}
 use lib.ListN.{drop}
-use Rattle.capi.specs.Rows.{same}
-use Rattle.capi.proofs.rows.same_row.Statement.{statement}
-use Rattle.capi.proofs.rows.same_row.Tie as tie
+use Rattle.rows.specs.Rows.{same}
+use Rattle.rows.proofs.same_row.Statement.{statement}
+use Rattle.rows.proofs.same_row.Tie as tie
 
 abbrev Inv-loop : tie.InvT-loop
 Inv-loop a b i₀ i = (i ≤ 9) × (same (drop i a) (drop i b) ≡ same a b)
