@@ -6,7 +6,8 @@
  *   - the buffers of one call do not overlap;
  *   - a bool is 0 or 1;
  *   - there are 32 KB of stack.
- * A refusal carries its number and leaves every state and buffer as it was. PLOKAMYR_BUDGET_SPENT alone keeps the work done so far.
+ * A refusal carries its number and leaves every lent state and buffer as it was; PLOKAMYR_BUDGET_SPENT alone keeps the positions written so far.
+ * States by value are answered anew: a run answers with what the words before the refused one left.
  * No function keeps a pointer, allocates, or has state of its own: calls from several threads do not meet.
  */
 #ifndef PLOKAMYR_H

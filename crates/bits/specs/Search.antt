@@ -1,6 +1,6 @@
 -- Searches among the numbers below a bound, by a test f.
 use Prim.Native.Nat.{ℕ, zero, suc, _+_, _-_}
-use mathlib.Core.Bool.{Bool, true, false, _||_}
+use mathlib.Core.Bool.{Bool, false, _||_}
 use Rattle.bits.specs.Choice.{pick, digit}
 
 -- how many numbers below n pass

@@ -1,7 +1,6 @@
 // What each instruction does: an effect, from the values of the registers that it reads and the vector length.
 ghost use mathlib.Core.Path.{_≡_};
 ghost use Rattle.instructions.specs.Instructions.{whileOf, computeOf};
-ghost use Rattle.predicates.specs.Predicate.{allFalse};
 
 mod count;
 mod named;

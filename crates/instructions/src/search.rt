@@ -5,7 +5,7 @@ use bits::Size;
 use predicates::Predicate;
 ghost use mathlib.Core.Path.{_≡_};
 ghost use Rattle.predicates.specs.Predicate.{allFalse};
-ghost use Rattle.instructions.specs.Effect.{writesP, writesF};
+ghost use Rattle.instructions.specs.Effect.{writesP};
 ghost use Rattle.instructions.specs.Instructions.{firstOf, pnext as pnextOf, pfirst as pfirstOf, ptest as ptestOf};
 
 // PNEXT: `v` is the mask, `dn` the predicate that is written. An element that is found is active in the mask, so Z is clear.

@@ -1,7 +1,7 @@
 // What instructions do with general registers: WHILE's comparisons, and saturating sums.
 ghost use mathlib.Core.Path.{_≡_};
 ghost use mathlib.Core.Bool.{true, false};
-ghost use Prim.Native.Nat.{_+_, _%_, _^_, _≤_};
+ghost use Prim.Native.Nat.{_+_, _%_, _≤_};
 ghost use lib.IntN.{pos};
 ghost use mir.Syntax.{w32, w64};
 ghost use mir.Val.{toZ, ofZ};

@@ -122,6 +122,7 @@ fn plain(
     let mut lanes = start.read_p(d as u64);
     let mut cursor = start.read_p(k as u64);
     let mut flags = start.flags;
+    // The lowest bit of a round's lanes and the end of their bits, for PNEXT's flags; and the element from which PNEXT searches.
     let mut low: u64 = 0;
     let mut end: u64 = 0;
     let mut next: u64 = 0;
