@@ -1,5 +1,5 @@
 -- The answers as C has them: each reply by its number, all else as it is.
-use Rattle.registers.specs.Reply.{numberOf}
+use Rattle.replies.specs.Reply.{numberOf}
 use Rattle.machine.specs.declared.Ran as Machine
 use Rattle.walk.specs.declared.Walked as Walk
 use Rattle.image.specs.declared.Reading as Image

@@ -1,7 +1,7 @@
 // The library as C calls it: include/plokamyr.h declares these functions. Replies are the paper's numbers.
 ghost use mathlib.Core.Path.{_≡_};
 ghost use lib.ListN.{length};
-ghost use Rattle.registers.specs.Reply.{numberOf};
+ghost use Rattle.replies.specs.Reply.{numberOf};
 ghost use Rattle.machine.specs.Step.{runOf, stepOf};
 ghost use Rattle.walk.specs.Walk.{walkOf, wholeOf};
 ghost use Rattle.image.specs.Reading.{readOf, listAfter};

@@ -11,7 +11,7 @@ use Rattle.bits.specs.Search.{some}
 use Rattle.bits.proofs.Searches.{never, some-no}
 use Rattle.predicates.specs.Predicate.{bitAt, pack, predicateLength, hasBitFrom}
 use Rattle.predicates.proofs.Words.{pack-bit, pack-words}
-use Rattle.registers.specs.declared.Reply.the-variants as R
+use Rattle.replies.specs.declared.Reply.the-variants as R
 use Rattle.registers.specs.declared.State.{State}
 use Rattle.registers.specs.Legal.{isLength, legal}
 use Rattle.registers.specs.State.{allFalse, readP}

@@ -9,16 +9,16 @@ use lib.Seq.{sets}
 use borrow.Author.Tests.{eq-eqb, ne-eqb, ltb-false}
 use Rattle.predicates.specs.declared.Flags.{Flags}
 use Rattle.predicates.specs.declared.Predicate.{Predicate}
-use Rattle.registers.specs.declared.Reply.{Reply}
-use Rattle.registers.specs.declared.Reply.the-variants as R
+use Rattle.replies.specs.declared.Reply.{Reply}
+use Rattle.replies.specs.declared.Reply.the-variants as R
 use Rattle.registers.specs.declared.State.{State}
-use Rattle.registers.specs.Reply.{numberOf}
+use Rattle.replies.specs.Reply.{numberOf}
 use Rattle.image.specs.declared.Reading.{Reading}
 use Rattle.image.specs.Bytes.{value, parts}
 use Rattle.image.specs.Reading.{countOf, contentOf, after, sectionFault, lengthOf, settingsWrong, flagsWrong, flagsIn, predicateOf, wordsReply, flagsReply, predicatesReply, xReply, imageReply, xAt, predicatesAt, flagsAt, wordsAt, stateOf, wordsOf, blank, readOf, listAfter}
 use Rattle.image.proofs.Bytes.{sets-over, length-parts}
 use Rattle.image.proofs.Sections.{Whole, whole, both-done, not-refused}
-use Rattle.registers.proofs.Replies.{number-done}
+use Rattle.replies.proofs.Replies.{number-done}
 
 -- ---- an image without a fault
 

@@ -17,11 +17,11 @@ use Rattle.bits.proofs.Bits.{digit-eq}
 use Rattle.bits.proofs.Searches.{never, some-none, digit-lt}
 use Rattle.predicates.specs.Predicate.{predicateLength, hasBitFrom}
 use Rattle.predicates.proofs.Words.{Words, pack-words}
-use Rattle.registers.specs.declared.Reply.{Reply}
-use Rattle.registers.specs.declared.Reply.the-variants as R
+use Rattle.replies.specs.declared.Reply.{Reply}
+use Rattle.replies.specs.declared.Reply.the-variants as R
 use Rattle.registers.specs.declared.State.{State}
 use Rattle.registers.specs.Legal.{isLength, legal}
-use Rattle.registers.specs.Reply.{numberOf}
+use Rattle.replies.specs.Reply.{numberOf}
 use Rattle.registers.specs.State.{allFalse, readP}
 use Rattle.registers.proofs.Legality.{Legal, legal-has, has-legal, quads}
 use Rattle.registers.proofs.Registers.{Sized}

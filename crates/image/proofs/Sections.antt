@@ -14,11 +14,11 @@ use Rattle.bits.specs.Choice.{pick, digit}
 use Rattle.bits.specs.Search.{some}
 use Rattle.bits.proofs.Searches.{never, some-yes}
 use Rattle.predicates.specs.declared.Flags.{Flags}
-use Rattle.registers.specs.declared.Reply.{Reply}
-use Rattle.registers.specs.declared.Reply.the-variants as R
+use Rattle.replies.specs.declared.Reply.{Reply}
+use Rattle.replies.specs.declared.Reply.the-variants as R
 use Rattle.registers.specs.Legal.{isLength}
-use Rattle.registers.specs.Reply.{numberOf}
-use Rattle.registers.proofs.Replies.{number-done}
+use Rattle.replies.specs.Reply.{numberOf}
+use Rattle.replies.proofs.Replies.{number-done}
 use Rattle.image.specs.Bytes.{le}
 use Rattle.image.specs.Image.{section, flagBytes}
 use Rattle.image.specs.Reading.{countOf, sectionFault, orElse, settingsWrong, flagsWrong, wordsReply}

@@ -10,11 +10,11 @@ use borrow.Author.Tests.{lt-ltb, le-ltb, ne-eqb}
 use Rattle.bits.specs.Choice.{pick, digit}
 use Rattle.bits.proofs.Searches.{never}
 use Rattle.predicates.specs.declared.Flags.{Flags}
-use Rattle.registers.specs.declared.Reply.{Reply}
-use Rattle.registers.specs.declared.Reply.the-variants as R
+use Rattle.replies.specs.declared.Reply.{Reply}
+use Rattle.replies.specs.declared.Reply.the-variants as R
 use Rattle.registers.specs.declared.State.{State}
 use Rattle.registers.specs.Legal.{legal, illegal}
-use Rattle.registers.specs.Reply.{numberOf}
+use Rattle.replies.specs.Reply.{numberOf}
 use Rattle.registers.proofs.Legality.{legal-has, quads}
 use Rattle.registers.proofs.Registers.{Sized}
 use Rattle.image.specs.declared.Written.{Written}

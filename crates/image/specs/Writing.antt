@@ -4,11 +4,11 @@ use mathlib.Core.List.{List}
 use lib.Dec.{ltb}
 use lib.ListN.{length}
 use Rattle.bits.specs.Choice.{pick}
-use Rattle.registers.specs.declared.Reply.{Reply}
-use Rattle.registers.specs.declared.Reply.the-variants as R
+use Rattle.replies.specs.declared.Reply.{Reply}
+use Rattle.replies.specs.declared.Reply.the-variants as R
 use Rattle.registers.specs.declared.State.{State}
 use Rattle.registers.specs.Legal.{illegal}
-use Rattle.registers.specs.Reply.{isDone}
+use Rattle.replies.specs.Reply.{isDone}
 use Rattle.image.specs.declared.Written.{Written}
 use Rattle.image.specs.Bytes.{over}
 use Rattle.image.specs.Image.{imageOf}

@@ -13,8 +13,8 @@ ghost use Rattle.image.specs.Reading.{countOf, sectionFault, settingsWro
 ghost use Rattle.image.specs.Writing.{writtenOf, bufferAfter};
 use predicates::Flags;
 use predicates::Predicate;
-use registers::Reply;
 use registers::State;
+use replies::Reply;
 
 pub struct Reading {
     pub reply: Reply,

@@ -13,7 +13,7 @@ use Rattle.predicates.specs.declared.Predicate.{Predicate}
 use Rattle.predicates.specs.Predicate.{bitAt, pack, active, spread, elements}
 use Rattle.predicates.specs.PredTest.{every, predTest}
 use Rattle.predicates.specs.Predicate.{allFalse}
-use Rattle.words.specs.declared.Condition.{Condition}
+use Rattle.scalars.specs.declared.Condition.{Condition}
 use Rattle.words.specs.declared.Target.{Target}
 use Rattle.words.specs.declared.Target.the-variants.{One, Pair, Counter}
 use Rattle.words.specs.declared.Instruction.{Instruction}

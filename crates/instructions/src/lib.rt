@@ -12,8 +12,8 @@ use bits::Size;
 pub use named::Operands;
 pub use named::operands_of;
 use predicates::Predicate;
+use scalars::Condition;
 pub use select::while_flags;
-use words::Condition;
 use words::Instruction;
 use words::Target;
 

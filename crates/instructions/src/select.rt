@@ -3,7 +3,7 @@ use super::Effect;
 use super::write::writes_p;
 use bits::Size;
 use predicates::Predicate;
-use words::Condition;
+use scalars::Condition;
 ghost use mathlib.Core.Path.{_≡_};
 ghost use mathlib.Core.Bool.{false, not, _&&_};
 ghost use Prim.Native.Nat.{_+_, _-_, _*_, _≤_, min};

@@ -2,8 +2,8 @@
 ghost use mathlib.Core.Path.{_≡_};
 ghost use Rattle.machine.specs.Step.{stepOf};
 use machine::Machine;
-use registers::Reply;
 use registers::State;
+use replies::Reply;
 
 // The reply; the state is changed where it stands, and is as it was if the word is refused.
 pub fn step(s: &mut State, word: u32) -> Reply

@@ -11,9 +11,9 @@ use Rattle.predicates.specs.PredTest.{atLowest, atHighest, predTest, nzcv, flag
 use Rattle.predicates.specs.Predicate.{bitAt, pack, active, spread, elements, predicateLength, hasBitFrom, allFalse}
 use Rattle.registers.specs.declared.State.{State}
 use Rattle.registers.specs.Legal.{isLength, hasStrayBit, illegal}
-use Rattle.registers.specs.Reply.{numberOf}
+use Rattle.replies.specs.Reply.{numberOf}
 use Rattle.registers.specs.State.{readX, readP, withX, withP, withFlags}
-use Rattle.words.specs.declared.Condition.the-variants.{Less, LessEqual, GreaterEqual, Greater}
+use Rattle.scalars.specs.declared.Condition.the-variants.{Less, LessEqual, GreaterEqual, Greater}
 use Rattle.words.specs.declared.Decoded.{Decoded}
 use Rattle.words.specs.declared.Decoded.the-variants.{Ours, Refused}
 use Rattle.words.specs.declared.Instruction.{Instruction}

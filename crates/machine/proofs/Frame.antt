@@ -15,7 +15,7 @@ use Rattle.predicates.specs.Predicate.{allFalse}
 use Rattle.registers.specs.declared.State.{State}
 use Rattle.registers.specs.State.{readX, readP, withX, withP, withFlags}
 use Rattle.registers.proofs.Registers.{Sized, readX-other, readP-other}
-use Rattle.words.specs.declared.Condition.{Condition}
+use Rattle.scalars.specs.declared.Condition.{Condition}
 use Rattle.words.specs.declared.Instruction.{Instruction}
 use Rattle.words.specs.declared.Instruction.the-variants.{While, Saturating, IncDec, Cntp, CntpCounter, Pnext, Pfirst, Ptest, Pfalse}
 use Rattle.words.specs.declared.Target.{Target}

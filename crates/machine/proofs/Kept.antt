@@ -27,7 +27,7 @@ use Rattle.registers.specs.Legal.{legal}
 use Rattle.registers.specs.State.{readX, readP, withX, withP, withFlags}
 use Rattle.registers.proofs.Legality.{legal-has, quads, withX-legal, withP-legal, withFlags-legal}
 use Rattle.registers.proofs.Registers.{Sized}
-use Rattle.words.specs.declared.Condition.{Condition}
+use Rattle.scalars.specs.declared.Condition.{Condition}
 use Rattle.words.specs.declared.Instruction.{Instruction}
 use Rattle.words.specs.declared.Instruction.the-variants.{While, Saturating, IncDec, Cntp, CntpCounter, Pnext, Pfirst, Ptest, Pfalse}
 use Rattle.words.specs.declared.Target.{Target}

@@ -15,11 +15,11 @@ use Rattle.predicates.specs.declared.Flags.{Flags}
 use Rattle.predicates.specs.declared.Predicate.{Predicate}
 use Rattle.predicates.specs.PredTest.{flagsOf}
 use Rattle.predicates.specs.Predicate.{allFalse}
-use Rattle.registers.specs.declared.Reply.{Reply}
-use Rattle.registers.specs.declared.Reply.the-variants.{Done, LevelTooLow, AccessOff, IllegalState}
+use Rattle.replies.specs.declared.Reply.{Reply}
+use Rattle.replies.specs.declared.Reply.the-variants.{Done, LevelTooLow, AccessOff, IllegalState}
 use Rattle.registers.specs.declared.State.{State}
 use Rattle.registers.specs.Legal.{legal}
-use Rattle.registers.specs.Reply.{numberOf}
+use Rattle.replies.specs.Reply.{numberOf}
 use Rattle.registers.specs.State.{withX, withP, withFlags}
 use Rattle.registers.proofs.Registers.{Sized, default-any}
 use Rattle.words.specs.declared.Decoded.{Decoded}

@@ -9,8 +9,8 @@ ghost use Rattle.machine.specs.Step.{effectAt, executeOf, admissionOf, i
 use instructions::Effect;
 use predicates::Flags;
 use predicates::Predicate;
-use registers::Reply;
 use registers::State;
+use replies::Reply;
 use words::Decoded;
 use words::Instruction;
 

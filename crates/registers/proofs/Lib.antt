@@ -1,4 +1,3 @@
 -- Laws of the register state. Callers' proofs cite them.
 pub mod Registers
 pub mod Legality
-pub mod Replies

@@ -1,11 +1,10 @@
-// The register state: reads and writes by value, which of its values are legal, and the replies.
+// The register state: reads and writes by value, and which of its values are legal.
 ghost use mathlib.Core.Path.{_≡_};
 ghost use Rattle.bits.specs.Search.{some};
 ghost use Rattle.predicates.specs.Predicate.{bitAt, pack};
 ghost use lib.ListN.{getD};
 ghost use Rattle.registers.specs.State.{allFalse, readX, readP, withX, withP, withFlags};
 ghost use Rattle.registers.specs.Legal.{isLength, legal};
-ghost use Rattle.registers.specs.Reply.{numberOf};
 use predicates::Flags;
 use predicates::Predicate;
 
@@ -138,44 +137,4 @@ fn union(p: [Predicate; 16]) -> Predicate
         i += 1;
     }
     q
-}
-
-// What a request is answered with.
-pub enum Reply {
-    Done,
-    UnknownWord,
-    LevelTooLow,
-    AccessOff,
-    IllegalState,
-    ImageCut,
-    NotAllowed,
-    TrailingBytes,
-    BufferTooSmall,
-    FieldPastRange,
-    BadWalkRegisters,
-    ListTooShort,
-    BudgetSpent,
-}
-
-impl Reply {
-    // The paper's number of a reply.
-    pub fn number(self) -> u8
-        ensures { λ r. ⌜ r ≡ numberOf self ⌝ }
-    {
-        match self {
-            Reply::Done => 0,
-            Reply::UnknownWord => 1,
-            Reply::LevelTooLow => 2,
-            Reply::AccessOff => 3,
-            Reply::IllegalState => 4,
-            Reply::ImageCut => 5,
-            Reply::NotAllowed => 6,
-            Reply::TrailingBytes => 7,
-            Reply::BufferTooSmall => 8,
-            Reply::FieldPastRange => 9,
-            Reply::BadWalkRegisters => 10,
-            Reply::ListTooShort => 11,
-            Reply::BudgetSpent => 12,
-        }
-    }
 }

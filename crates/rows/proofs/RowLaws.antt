@@ -13,10 +13,10 @@ use native.Mathlib.Omega.{arith}
 use borrow.Author.Tests.{eq-eqb, ne-eqb}
 use Rattle.bits.specs.Choice.{pick}
 use Rattle.bits.specs.declared.Size.{Size}
-use Rattle.registers.specs.declared.Reply.the-variants.{FieldPastRange}
+use Rattle.replies.specs.declared.Reply.the-variants.{FieldPastRange}
 use Rattle.words.specs.Words.{Form, forms, build, decodeOf, encodeOf}
 use Rattle.words.specs.Words.Form.{pfalse}
-use Rattle.words.specs.declared.Condition.{Condition}
+use Rattle.scalars.specs.declared.Condition.{Condition}
 use Rattle.words.specs.declared.Target.{Target}
 use Rattle.words.specs.declared.Instruction.{Instruction}
 use Rattle.words.specs.declared.Instruction.the-variants.{While}

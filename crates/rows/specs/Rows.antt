@@ -5,8 +5,8 @@ use mathlib.Core.List.{List, [], _∷_}
 use lib.Dec.{eqb}
 use lib.ListN.{getD}
 use Rattle.bits.specs.Choice.{pick}
-use Rattle.registers.specs.Reply.{numberOf}
-use Rattle.registers.specs.declared.Reply.the-variants.{FieldPastRange}
+use Rattle.replies.specs.Reply.{numberOf}
+use Rattle.replies.specs.declared.Reply.the-variants.{FieldPastRange}
 use Rattle.words.specs.Words.{Form, forms, formOf, fieldsOf, build, decodeOf, encodeOf}
 use Rattle.words.specs.Words.Form.{whileOne, whilePair, whileCounter, saturating, incDec, cntp, cntpCounter, pnext, pfirst, ptest, pfalse}
 use Rattle.words.specs.declared.Instruction.{Instruction}

@@ -1,14 +1,15 @@
 // Instructions as rows of nine numbers: the form's, the fields from the highest bit down, zeros.
 use bits::Size;
-use registers::Reply;
-use words::Condition;
+use replies::Reply;
+use scalars::Condition;
 use words::Encoded;
 use words::Instruction;
 use words::Target;
 ghost use mathlib.Core.Path.{_≡_};
 ghost use Rattle.bits.specs.Choice.{digit};
 ghost use Rattle.bits.specs.Size.{shift};
-ghost use Rattle.words.specs.Words.{Form, sizeOf, conditionOf, ltBit, eqBit, flag, build};
+ghost use Rattle.scalars.specs.While.{upward};
+ghost use Rattle.words.specs.Words.{Form, sizeOf, conditionOf, eqBit, flag, build};
 ghost use Rattle.rows.specs.Rows.{rowOf, numbersAt, instructionAt, same, encodedAs};
 
 fn bit_of(b: bool) -> u8
@@ -18,7 +19,7 @@ fn bit_of(b: bool) -> u8
 }
 
 fn lt_bit(c: Condition) -> u8
-    ensures { λ r. ⌜ r ≡ digit (ltBit c) ⌝ }
+    ensures { λ r. ⌜ r ≡ digit (upward c) ⌝ }
 {
     match c {
         Condition::Less => 1,

@@ -7,7 +7,7 @@ use native.Mathlib.Omega.{arith}
 use mir.Syntax.{Width}
 use Rattle.bits.specs.Search.{firstFrom}
 use Rattle.bits.proofs.Searches.{first-end, first-hit, first-miss}
-use Rattle.words.specs.declared.Condition.{Condition}
+use Rattle.scalars.specs.declared.Condition.{Condition}
 use Rattle.scalars.specs.Value.{valueAs}
 use Rattle.scalars.specs.While.{holds, upward, nextOperand, operandAt, comparison, heldOf}
 

@@ -1,15 +1,14 @@
 -- WHILE's comparisons.
 use Prim.Native.Nat.{ℕ, zero, suc, _+_, _-_, _%_, _^_}
-use mathlib.Core.Bool.{Bool, not}
+use mathlib.Core.Bool.{Bool, true, false, not}
 use lib.IntN.{ℤ}
 use lib.Signed.{ltZ, leZ}
 use mir.Syntax.{Width}
 use mir.Val.{bits}
 use Rattle.bits.specs.Choice.{pick}
 use Rattle.bits.specs.Search.{firstFrom}
-use Rattle.words.specs.declared.Condition.{Condition}
-use Rattle.words.specs.declared.Condition.the-variants.{Less, LessEqual, GreaterEqual, Greater}
-use Rattle.words.specs.Words.{ltBit}
+use Rattle.scalars.specs.declared.Condition.{Condition}
+use Rattle.scalars.specs.declared.Condition.the-variants.{Less, LessEqual, GreaterEqual, Greater}
 use Rattle.scalars.specs.Value.{valueAs}
 
 abbrev pub holds : Condition → ℤ → ℤ → Bool
@@ -18,9 +17,12 @@ holds LessEqual a b = leZ a b
 holds GreaterEqual a b = leZ b a
 holds Greater a b = ltZ b a
 
--- lt = 1 counts up
+-- less, and less or equal, count up
 abbrev pub upward : Condition → Bool
-upward c = ltBit c
+upward Less = true
+upward LessEqual = true
+upward GreaterEqual = false
+upward Greater = false
 
 -- incremented by one or decremented, wrapping at the width
 abbrev pub nextOperand : Width → Bool → ℕ → ℕ

@@ -8,7 +8,14 @@ ghost use mir.Val.{toZ, ofZ};
 ghost use Rattle.scalars.specs.Value.{widthOf, lowOf, valueAs};
 ghost use Rattle.scalars.specs.While.{holds, upward, nextOperand, comparison, heldOf};
 ghost use Rattle.scalars.specs.Saturate.{clamp, saturated, moved, saturating};
-use words::Condition;
+
+// The comparison of a WHILE.
+pub enum Condition {
+    Less,
+    LessEqual,
+    GreaterEqual,
+    Greater,
+}
 
 // The bits of `x` in two's complement.
 pub fn signed64(x: u64) -> i64

@@ -8,17 +8,17 @@ use lib.Seq.{take-at}
 use native.Mathlib.Omega.{arith}
 use borrow.Author.Tests.{eq-eqb, ne-eqb, eqb-true}
 use Rattle.bits.specs.Choice.{pick}
-use Rattle.registers.specs.declared.Reply.{Reply}
-use Rattle.registers.specs.declared.Reply.the-variants as R
+use Rattle.replies.specs.declared.Reply.{Reply}
+use Rattle.replies.specs.declared.Reply.the-variants as R
 use Rattle.registers.specs.declared.State.{State}
 use Rattle.registers.specs.Legal.{legal}
-use Rattle.registers.specs.Reply.{numberOf}
+use Rattle.replies.specs.Reply.{numberOf}
 use Rattle.image.specs.declared.Reading.{Reading}
 use Rattle.image.specs.Bytes.{value, over}
-use Rattle.registers.specs.Reply.{isDone}
+use Rattle.replies.specs.Reply.{isDone}
 use Rattle.image.specs.Reading.{imageReply, stateOf, wordsOf, countOf, contentOf, wordsAt, blank, readOf, listAfter}
 use Rattle.image.proofs.Bytes.{AreBytes, length-parts}
-use Rattle.registers.proofs.Replies.{number-done}
+use Rattle.replies.proofs.Replies.{number-done}
 use Rattle.image.proofs.RoundTrips.{read-legal, read-few}
 use Rattle.report.specs.Lines.{imageLine, after, placed}
 use Rattle.transcript.specs.Transcript.{linesOf, transcriptOf, afterAll, placedAll}

@@ -10,16 +10,16 @@ use lib.Seq.{take-at, drop-at, drop-drop, length-take-le}
 use borrow.Author.Tests.{le-leb, eqb-true}
 use Rattle.bits.specs.Choice.{pick}
 use Rattle.predicates.specs.declared.Flags.{Flags}
-use Rattle.registers.specs.declared.Reply.{Reply}
-use Rattle.registers.specs.declared.Reply.the-variants as R
+use Rattle.replies.specs.declared.Reply.{Reply}
+use Rattle.replies.specs.declared.Reply.the-variants as R
 use Rattle.registers.specs.declared.State.{State}
-use Rattle.registers.specs.Reply.{numberOf}
+use Rattle.replies.specs.Reply.{numberOf}
 use Rattle.machine.specs.declared.Stepped.{Stepped}
 use Rattle.machine.specs.Step.{stepOf}
-use Rattle.registers.specs.Reply.{isDone}
+use Rattle.replies.specs.Reply.{isDone}
 use Rattle.image.specs.Reading.{imageReply, stateOf, wordsOf}
 use Rattle.image.proofs.Bytes.{length-parts}
-use Rattle.registers.proofs.Replies.{number-done}
+use Rattle.replies.proofs.Replies.{number-done}
 use Rattle.image.proofs.Readings.{sound}
 use Rattle.report.specs.Lines.{wordLine, endLine, imageLine, after, placed}
 use Rattle.report.proofs.Digits.{length-most}

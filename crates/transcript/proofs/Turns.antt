@@ -11,7 +11,7 @@ use borrow.Author.Tests.{eq-eqb, ne-eqb}
 use Rattle.bits.specs.Choice.{pick}
 use Rattle.registers.specs.declared.State.{State}
 use Rattle.registers.specs.Legal.{legal}
-use Rattle.registers.specs.Reply.{numberOf}
+use Rattle.replies.specs.Reply.{numberOf}
 use Rattle.words.specs.declared.Decoded.{Decoded}
 use Rattle.words.specs.Words.{decodeOf}
 use Rattle.machine.specs.declared.Stepped.{Stepped}

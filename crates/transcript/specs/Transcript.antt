@@ -4,7 +4,7 @@ use mathlib.Core.List.{List, [], _∷_, _++_}
 use lib.ListN.{length}
 use Rattle.bits.specs.Choice.{pick}
 use Rattle.registers.specs.declared.State.{State}
-use Rattle.registers.specs.Reply.{numberOf, isDone}
+use Rattle.replies.specs.Reply.{numberOf, isDone}
 use Rattle.machine.specs.Step.{stepOf}
 use Rattle.image.specs.Reading.{imageReply, stateOf, wordsOf}
 use Rattle.report.specs.Lines.{wordLine, endLine, imageLine, after, placed}

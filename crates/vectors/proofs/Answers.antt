@@ -10,10 +10,10 @@ use lib.ListN.{length, take, drop, getD, replicate, length-drop}
 use lib.Seq.{take-at}
 use borrow.Author.Tests.{eq-eqb}
 use Rattle.bits.specs.Choice.{pick}
-use Rattle.registers.specs.declared.Reply.{Reply}
-use Rattle.registers.specs.declared.Reply.the-variants as R
+use Rattle.replies.specs.declared.Reply.{Reply}
+use Rattle.replies.specs.declared.Reply.the-variants as R
 use Rattle.registers.specs.declared.State.{State}
-use Rattle.registers.specs.Reply.{numberOf, isDone}
+use Rattle.replies.specs.Reply.{numberOf, isDone}
 use Rattle.machine.specs.declared.Ran.{Ran}
 use Rattle.machine.specs.Step.{runOf}
 use Rattle.walk.specs.declared.Walked.{Walked}

@@ -4,7 +4,7 @@ use mathlib.Core.List.{List, []}
 use mathlib.Core.Path.{_≡_}
 use lib.ListN.{length, take, drop, getD, replicate}
 use Rattle.registers.specs.declared.State.{State}
-use Rattle.registers.specs.Reply.{numberOf}
+use Rattle.replies.specs.Reply.{numberOf}
 use Rattle.machine.specs.declared.Ran.{Ran}
 use Rattle.machine.specs.Step.{runOf}
 use Rattle.walk.specs.declared.Walked.{Walked}

@@ -14,11 +14,11 @@ use Rattle.bits.specs.Choice.{pick}
 use Rattle.bits.proofs.Searches.{never}
 use Rattle.predicates.specs.Predicate.{elements}
 use Rattle.predicates.proofs.Lengths.{elements-pos}
-use Rattle.registers.specs.declared.Reply.{Reply}
-use Rattle.registers.specs.declared.Reply.the-variants as R
+use Rattle.replies.specs.declared.Reply.{Reply}
+use Rattle.replies.specs.declared.Reply.the-variants as R
 use Rattle.registers.specs.declared.State.{State}
 use Rattle.registers.specs.Legal.{legal}
-use Rattle.registers.specs.Reply.{numberOf}
+use Rattle.replies.specs.Reply.{numberOf}
 use Rattle.registers.specs.State.{readX}
 use Rattle.registers.proofs.Legality.{legal-has, quads}
 use Rattle.words.specs.Words.{sizeOf}

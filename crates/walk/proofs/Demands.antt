@@ -8,7 +8,7 @@ use lib.ListN.{getD}
 use Rattle.bits.specs.declared.Size.{Size}
 use Rattle.bits.specs.Choice.{pick}
 use Rattle.predicates.specs.Predicate.{elements}
-use Rattle.registers.specs.declared.Reply.the-variants.{Done, BudgetSpent}
+use Rattle.replies.specs.declared.Reply.the-variants.{Done, BudgetSpent}
 use Rattle.registers.specs.declared.State.{State}
 use Rattle.registers.specs.State.{readX}
 use Rattle.walk.specs.Demand.{Finished, Spent, Demand3, needed}

@@ -10,7 +10,7 @@ use Rattle.bits.specs.Bits.{testBit, number, elementBit}
 use Rattle.bits.specs.Search.{count, some, afterLast, scan}
 use Rattle.predicates.specs.PredTest.{atLowest, atHighest, predTest, nzcv, flagsOf}
 use Rattle.predicates.specs.Predicate.{bitAt, pack, active, spread, elements, predicateLength, hasBitFrom, allFalse}
-use Rattle.registers.specs.declared.Reply.the-variants.{Done}
+use Rattle.replies.specs.declared.Reply.the-variants.{Done}
 use Rattle.registers.specs.declared.State.{State}
 use Rattle.registers.specs.Legal.{isLength, hasStrayBit, illegal}
 use Rattle.registers.specs.State.{withX, withP, withFlags}

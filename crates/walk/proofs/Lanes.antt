@@ -27,7 +27,7 @@ use Rattle.predicates.proofs.Words.{pack-bit, pack-cong}
 use Rattle.registers.specs.declared.State.{State}
 use Rattle.registers.specs.State.{readX, readP, withX, withP, withFlags}
 use Rattle.registers.proofs.Registers.{Sized}
-use Rattle.words.specs.declared.Condition.the-variants.{Less}
+use Rattle.scalars.specs.declared.Condition.the-variants.{Less}
 use Rattle.words.specs.declared.Instruction.the-variants.{While, IncDec, Pnext, Pfalse}
 use Rattle.words.specs.declared.Target.the-variants.{One}
 use Rattle.machine.specs.Step.{executeOf}

@@ -12,7 +12,7 @@ use Rattle.bits.specs.Search.{afterLast}
 use Rattle.bits.specs.Size.{shift}
 use Rattle.predicates.specs.declared.Predicate.{Predicate}
 use Rattle.predicates.specs.Predicate.{active, elements}
-use Rattle.registers.specs.declared.Reply.the-variants.{Done, LevelTooLow, AccessOff, IllegalState, BadWalkRegisters, ListTooShort}
+use Rattle.replies.specs.declared.Reply.the-variants.{Done, LevelTooLow, AccessOff, IllegalState, BadWalkRegisters, ListTooShort}
 use Rattle.registers.specs.declared.State.{State}
 use Rattle.registers.specs.Legal.{legal}
 use Rattle.registers.specs.State.{readX}

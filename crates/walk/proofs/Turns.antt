@@ -18,7 +18,7 @@ use Rattle.predicates.proofs.Flagging.{flags-back}
 use Rattle.predicates.proofs.Live.{count-live, last-live}
 use Rattle.registers.specs.declared.State.{State}
 use Rattle.registers.specs.State.{readX, readP, withX, withP, withFlags}
-use Rattle.words.specs.declared.Condition.the-variants.{Less}
+use Rattle.scalars.specs.declared.Condition.the-variants.{Less}
 use Rattle.words.specs.declared.Target.the-variants.{One}
 use Rattle.words.specs.declared.Instruction.the-variants.{While, IncDec, Pnext, Pfalse}
 use Rattle.scalars.specs.Value.{lowOf}

@@ -6,7 +6,7 @@ use mathlib.Core.Path.{_≡_}
 use lib.ListN.{length, getD}
 use Rattle.bits.specs.declared.Size.{Size}
 use Rattle.predicates.specs.Predicate.{allFalse, elements}
-use Rattle.registers.specs.declared.Reply.the-variants.{Done, BudgetSpent}
+use Rattle.replies.specs.declared.Reply.the-variants.{Done, BudgetSpent}
 use Rattle.registers.specs.declared.State.{State}
 use Rattle.registers.specs.State.{readX, withX, withP, withFlags}
 use Rattle.walk.specs.declared.Walked.{Walked}

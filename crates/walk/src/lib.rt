@@ -2,7 +2,7 @@
 ghost use mathlib.Core.Path.{_≡_};
 ghost use lib.ListN.{length};
 ghost use Rattle.bits.specs.Choice.{pick};
-ghost use Rattle.registers.specs.declared.Reply.the-variants.{Done, BudgetSpent};
+ghost use Rattle.replies.specs.declared.Reply.the-variants.{Done, BudgetSpent};
 ghost use Rattle.words.specs.Words.{sizeOf};
 ghost use Rattle.walk.specs.Plain.{run, begin};
 ghost use Rattle.walk.specs.Walk.{Within, machineOf, walked, badRegisters, refusalOf, wholeOf, walkOf};
@@ -10,9 +10,9 @@ ghost use Rattle.walk.specs.Demand.{Demand3};
 use bits::Size;
 use predicates::Flags;
 use predicates::Predicate;
-use registers::Reply;
 use registers::State;
-use words::Condition;
+use replies::Reply;
+use scalars::Condition;
 
 // The instruction to come: PFALSE, WHILELO, PNEXT, INCP.
 pub enum Phase {

@@ -10,10 +10,11 @@ use Rattle.bits.specs.Size.{shift}
 use Rattle.bits.specs.declared.Size.{Size}
 use Rattle.bits.specs.declared.Size.the-variants as Sz
 use Rattle.words.specs.Layout.{slice, cut}
-use Rattle.words.specs.Words.{Form, layout, flag, sizeOf, conditionOf, ltBit, eqBit, formOf, fieldsOf, build, readAs}
+use Rattle.scalars.specs.While.{upward}
+use Rattle.words.specs.Words.{Form, layout, flag, sizeOf, conditionOf, eqBit, formOf, fieldsOf, build, readAs}
 use Rattle.words.specs.Words.Form.{whileOne, whilePair, whileCounter, saturating, incDec, cntp, cntpCounter, pnext, pfirst, ptest, pfalse}
-use Rattle.words.specs.declared.Condition.{Condition}
-use Rattle.words.specs.declared.Condition.the-variants.{Less, LessEqual, GreaterEqual, Greater}
+use Rattle.scalars.specs.declared.Condition.{Condition}
+use Rattle.scalars.specs.declared.Condition.the-variants.{Less, LessEqual, GreaterEqual, Greater}
 use Rattle.words.specs.declared.Target.{Target}
 use Rattle.words.specs.declared.Target.the-variants.{One, Pair, Counter}
 use Rattle.words.specs.declared.Instruction.{Instruction}
@@ -29,7 +30,7 @@ size-shift Sz.H = refl
 size-shift Sz.S = refl
 size-shift Sz.D = refl
 
-condition-bits : (c : Condition) → conditionOf (ltBit c) (eqBit c) ≡ c
+condition-bits : (c : Condition) → conditionOf (upward c) (eqBit c) ≡ c
 condition-bits Less = refl
 condition-bits LessEqual = refl
 condition-bits GreaterEqual = refl
@@ -72,7 +73,7 @@ slice-digit lo w = digit-flag (slice lo 1 w) (mod-lt (w / 2 ^ lo) (pow-pos 1))
 slice-size : (lo w : ℕ) → shift (sizeOf (slice lo 2 w)) ≡ slice lo 2 w
 slice-size lo w = shift-size (slice lo 2 w) (mod-lt (w / 2 ^ lo) (pow-pos 2))
 
-lt-condition : (l e : Bool) → ltBit (conditionOf l e) ≡ l
+lt-condition : (l e : Bool) → upward (conditionOf l e) ≡ l
 lt-condition true true = refl
 lt-condition true false = refl
 lt-condition false true = refl

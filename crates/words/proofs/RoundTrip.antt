@@ -7,7 +7,7 @@ use mathlib.Core.Logic.{_↔_, _⊎_, inl, inr}
 use native.Mathlib.Nat.{mod-eq-of-lt}
 use native.Mathlib.Omega.{arith}
 use Rattle.bits.specs.Choice.{pick}
-use Rattle.registers.specs.declared.Reply.the-variants.{FieldPastRange}
+use Rattle.replies.specs.declared.Reply.the-variants.{FieldPastRange}
 use Rattle.words.specs.Layout.{matches, cut, fits, place}
 use Rattle.words.specs.Words.{Form, layout, forms, formOf, fieldsOf, build, allowed, reads, readAs, refusal, firstOf, decodeOf, wordOf, inRange, encodeOf}
 use Rattle.words.specs.declared.Instruction.{Instruction}

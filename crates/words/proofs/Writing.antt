@@ -9,7 +9,7 @@ use Rattle.bits.specs.Choice.{pick, digit}
 use Rattle.bits.specs.Size.{shift}
 use Rattle.bits.specs.declared.Size.{Size}
 use Rattle.bits.specs.declared.Size.the-variants as Sz
-use Rattle.registers.specs.declared.Reply.the-variants.{FieldPastRange}
+use Rattle.replies.specs.declared.Reply.the-variants.{FieldPastRange}
 use Rattle.words.specs.Words.{wordOf, inRange, encodeOf}
 use Rattle.words.specs.declared.Instruction.{Instruction}
 use Rattle.words.specs.declared.Encoded.the-variants.{Word, Refused}

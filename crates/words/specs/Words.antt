@@ -7,13 +7,14 @@ use Rattle.bits.specs.Choice.{pick, digit}
 use Rattle.bits.specs.Size.{shift}
 use Rattle.bits.specs.declared.Size.{Size}
 use Rattle.bits.specs.declared.Size.the-variants as Sz
-use Rattle.registers.specs.declared.Reply.{Reply}
-use Rattle.registers.specs.declared.Reply.the-variants.{UnknownWord, FieldPastRange}
+use Rattle.replies.specs.declared.Reply.{Reply}
+use Rattle.replies.specs.declared.Reply.the-variants.{UnknownWord, FieldPastRange}
 use Rattle.words.specs.Layout.{Piece, upper, matches, cut, fits, place, given}
 use Rattle.words.specs.Layout.Piece.{fixed}
 use Rattle.words.specs.Fields.{opcode, size, sf, U, lt, eq, D, vl, Rm, Rn, Rd, Rdn, Pd, Pg, Pm, Pn, Pv, Pdn, PNd, PNn}
-use Rattle.words.specs.declared.Condition.{Condition}
-use Rattle.words.specs.declared.Condition.the-variants.{Less, LessEqual, GreaterEqual, Greater}
+use Rattle.scalars.specs.While.{upward}
+use Rattle.scalars.specs.declared.Condition.{Condition}
+use Rattle.scalars.specs.declared.Condition.the-variants.{Less, LessEqual, GreaterEqual, Greater}
 use Rattle.words.specs.declared.Target.{Target}
 use Rattle.words.specs.declared.Target.the-variants.{One, Pair, Counter}
 use Rattle.words.specs.declared.Instruction.{Instruction}
@@ -61,12 +62,6 @@ conditionOf true true = LessEqual
 conditionOf false false = GreaterEqual
 conditionOf false true = Greater
 
-abbrev pub ltBit : Condition → Bool
-ltBit Less = true
-ltBit LessEqual = true
-ltBit GreaterEqual = false
-ltBit Greater = false
-
 abbrev pub eqBit : Condition → Bool
 eqBit Less = false
 eqBit LessEqual = true
@@ -91,9 +86,9 @@ formOf (Ptest pg pn) = ptest
 formOf (Pfalse pd) = pfalse
 
 abbrev pub whileFields : Condition → Bool → Target → Size → ℕ → ℕ → List ℕ
-whileFields c u (One sf pd) size rn rm = shift size ∷ rm ∷ digit sf ∷ digit u ∷ digit (ltBit c) ∷ rn ∷ digit (eqBit c) ∷ pd ∷ []
-whileFields c u (Pair pd) size rn rm = shift size ∷ rm ∷ digit u ∷ digit (ltBit c) ∷ rn ∷ pd ∷ digit (eqBit c) ∷ []
-whileFields c u (Counter vl pnd) size rn rm = shift size ∷ rm ∷ digit vl ∷ digit u ∷ digit (ltBit c) ∷ rn ∷ digit (eqBit c) ∷ pnd ∷ []
+whileFields c u (One sf pd) size rn rm = shift size ∷ rm ∷ digit sf ∷ digit u ∷ digit (upward c) ∷ rn ∷ digit (eqBit c) ∷ pd ∷ []
+whileFields c u (Pair pd) size rn rm = shift size ∷ rm ∷ digit u ∷ digit (upward c) ∷ rn ∷ pd ∷ digit (eqBit c) ∷ []
+whileFields c u (Counter vl pnd) size rn rm = shift size ∷ rm ∷ digit vl ∷ digit u ∷ digit (upward c) ∷ rn ∷ digit (eqBit c) ∷ pnd ∷ []
 
 abbrev pub fieldsOf : Instruction → List ℕ
 fieldsOf (While c u t size rn rm) = whileFields c u t size rn rm
@@ -157,7 +152,7 @@ encodeOf i = pick (inRange i) (Enc.Word (wordOf i)) (Enc.Refused FieldPastRange)
 
 -- the level of each form: WHILE one has 1 if lt = 1, else 2
 abbrev pub whileLevel : Condition → Target → ℕ
-whileLevel c (One sf pd) = pick (ltBit c) 1 2
+whileLevel c (One sf pd) = pick (upward c) 1 2
 whileLevel c (Pair pd) = 3
 whileLevel c (Counter vl pnd) = 3
 

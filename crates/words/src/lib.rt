@@ -1,6 +1,7 @@
 // Instruction words: reading, writing, and the level that each asks.
 use bits::Size;
-use registers::Reply;
+use replies::Reply;
+use scalars::Condition;
 ghost use mathlib.Core.Path.{_≡_};
 ghost use Rattle.words.specs.Words.{levelOf, whileLevel};
 
@@ -11,14 +12,6 @@ pub use read::condition_of;
 pub use read::decode;
 pub use read::size_of;
 pub use write::encode;
-
-// The comparison of a WHILE.
-pub enum Condition {
-    Less,
-    LessEqual,
-    GreaterEqual,
-    Greater,
-}
 
 // What a WHILE writes: a predicate, the pair P(2 pd) and P(2 pd + 1), or the counter P(8 + pnd).
 pub enum Target {

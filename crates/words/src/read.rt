@@ -1,10 +1,10 @@
 // Reading a word: for each form a test of its fixed bits, from the lowest up, and a cut of its fields.
-use super::Condition;
 use super::Decoded;
 use super::Instruction;
 use super::Target;
 use bits::Size;
-use registers::Reply;
+use replies::Reply;
+use scalars::Condition;
 ghost use mathlib.Core.Path.{_≡_};
 ghost use lib.ListN.{drop};
 ghost use Rattle.words.specs.Layout.{slice};

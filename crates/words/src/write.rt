@@ -1,15 +1,16 @@
 // Writing a word: for each form its sum, and the tests of its fields' ranges.
-use super::Condition;
 use super::Encoded;
 use super::Instruction;
 use super::Target;
 use bits::Size;
-use registers::Reply;
+use replies::Reply;
+use scalars::Condition;
 ghost use mathlib.Core.Path.{_≡_};
 ghost use Prim.Native.Nat.{_+_, _*_, _<_, _^_};
 ghost use Rattle.bits.specs.Choice.{digit};
 ghost use Rattle.bits.specs.Size.{shift};
-ghost use Rattle.words.specs.Words.{ltBit, eqBit, wordOf, encodeOf};
+ghost use Rattle.scalars.specs.While.{upward};
+ghost use Rattle.words.specs.Words.{eqBit, wordOf, encodeOf};
 
 fn size_field(size: Size) -> u32
     ensures { λ r. ⌜ (r ≡ shift size) × (r < 4) ⌝ }
@@ -24,7 +25,7 @@ fn bit_of(b: bool) -> u32
 }
 
 fn lt_bit(c: Condition) -> u32
-    ensures { λ r. ⌜ (r ≡ digit (ltBit c)) × (r < 2) ⌝ }
+    ensures { λ r. ⌜ (r ≡ digit (upward c)) × (r < 2) ⌝ }
 {
     match c {
         Condition::Less => 1,
@@ -48,7 +49,7 @@ fn eq_bit(c: Condition) -> u32
 // The bits that the three WHILE forms have at the same places.
 fn while_bits(condition: Condition, unsigned: bool, size: Size, rn: u8, rm: u8) -> u32
     ensures { λ r. ⌜ (r ≡ 0b00100101 * 2 ^ 24 + shift size * 2 ^ 22 + 2 ^ 21 + rm * 2 ^ 16
-        + digit unsigned * 2 ^ 11 + digit (ltBit condition) * 2 ^ 10 + rn * 2 ^ 5) × (r < 2 ^ 30) ⌝ }
+        + digit unsigned * 2 ^ 11 + digit (upward condition) * 2 ^ 10 + rn * 2 ^ 5) × (r < 2 ^ 30) ⌝ }
 {
     (0b00100101 << 24)
         + (size_field(size) << 22)

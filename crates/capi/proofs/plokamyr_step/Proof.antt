@@ -35,21 +35,21 @@ use denote.Triple.Table.{entered, cited}
 use denote.Triple.Walked.{says, Stays, gave-ref, stay-none, walkOf, AllGo, goes-none, goes-gave-ref, Walks, ends-at, walked, walk-meets}
 use denote.Triple.Clauses.{ensured, lasts}
 use denote.Exit.{yes}
-use Rattle.registers.specs.declared.Reply.{Reply}
+use Rattle.replies.specs.declared.Reply.{Reply}
 use Rattle.registers.specs.declared.State.{State}
-use Rattle.registers.specs.Reply.{numberOf}
+use Rattle.replies.specs.Reply.{numberOf}
 use Rattle.machine.specs.Step.{stepOf}
-use Rattle.registers.proofs.Reply as R
-use Rattle.registers.proofs.Reply.Laws as R′
+use Rattle.replies.proofs.Reply as R
+use Rattle.replies.proofs.Reply.Laws as R′
 use Rattle.registers.proofs.State as T
 use Rattle.lent.proofs.step as step
 use Rattle.lent.proofs.step.Symbol as step-def
 use Rattle.lent.proofs.step.Symbol.{name as #lent·step}
 use Rattle.lent.proofs.step.Met as step-thm
-use Rattle.registers.proofs.Reply.number as number
-use Rattle.registers.proofs.Reply.number.Symbol as number-def
-use Rattle.registers.proofs.Reply.number.Symbol.{name as #registers·Reply·number}
-use Rattle.registers.proofs.Reply.number.Met as number-thm
+use Rattle.replies.proofs.Reply.number as number
+use Rattle.replies.proofs.Reply.number.Symbol as number-def
+use Rattle.replies.proofs.Reply.number.Symbol.{name as #replies·Reply·number}
+use Rattle.replies.proofs.Reply.number.Met as number-thm
 use Rattle.capi.proofs.plokamyr_step.Key.{name as #capi·plokamyr-step}
 use Rattle.capi.proofs.plokamyr_step as f
 use Rattle.capi.proofs.plokamyr_step.Statement as stated
@@ -108,7 +108,7 @@ module _ {M : Type 1} (𝓤 : URA M) (H : Heap 𝓤) (A : Atoms 𝓤) (W : Given
   abbrev Stepped : Reply → State → Type 0
   Stepped a s = (a ≡ stepOf h n .reply) × (s ≡ stepOf h n .state)
 
-  module _ (C : Calls 𝓤 H) (Λ : Loops 𝓤 H) (fm : FmC 𝓤 H (W .laws) C) (known-step : Triple 𝓤 (C #lent·step) (Step 𝓤 H A at-mem run)) (known-number : Triple 𝓤 (C #registers·Reply·number) (Number 𝓤 H A at-mem run)) where
+  module _ (C : Calls 𝓤 H) (Λ : Loops 𝓤 H) (fm : FmC 𝓤 H (W .laws) C) (known-step : Triple 𝓤 (C #lent·step) (Step 𝓤 H A at-mem run)) (known-number : Triple 𝓤 (C #replies·Reply·number) (Number 𝓤 H A at-mem run)) where
     walk : ent 𝓤 (onEntry 𝓤 H A f.signature (κ, tt) (q, tt) x at) (WpFn 𝓤 H C Λ code.function (vptr b o ∷ vint w32 n ∷ []) Post)
     walk =
         qed W ((‵ (flft κ q) ⊛ ‵ ftrue) ∷ ‵ (owns (MutRef (named 0) κ T.the-row ∷ u32 ∷ []) x at) ∷ []) ∵ enter ! C Λ code.function (vptr b o ∷ vint w32 n ∷ []) _ $
@@ -138,7 +138,7 @@ module _ {M : Type 1} (𝓤 : URA M) (H : Heap 𝓤) (A : Atoms 𝓤) (W : Given
         keep ! (1 ∷ 2 ∷ []) $ by ! (exits m (ws .0) (wider m (is′ .1)) (e′ ∙ ap numberOf (e .0), e .1)))))))))))))))))
 
 module _ {M : Type 1} (𝓤 : URA M) (H : Heap 𝓤) (A : Atoms 𝓤) (W : Given 𝓤 H A) (at-mem : Memory → SProp 𝓤) (run : Routine → Fun 𝓤) where
-  step-walks : (C : Calls 𝓤 H) (Λ : Loops 𝓤 H) → FmC 𝓤 H (W .laws) C → Triple 𝓤 (C #lent·step) (Step 𝓤 H A at-mem run) → Triple 𝓤 (C #registers·Reply·number) (Number 𝓤 H A at-mem run)
+  step-walks : (C : Calls 𝓤 H) (Λ : Loops 𝓤 H) → FmC 𝓤 H (W .laws) C → Triple 𝓤 (C #lent·step) (Step 𝓤 H A at-mem run) → Triple 𝓤 (C #replies·Reply·number) (Number 𝓤 H A at-mem run)
       → Walks 𝓤 H A f.ended stayed (WpFn 𝓤 H C Λ code.function) (f.clauses 𝓤 H A at-mem run)
   step-walks C Λ fm known-step known-number = walked 𝓤 H A f.ended stayed (f.clauses 𝓤 H A at-mem run) (WpFn 𝓤 H C Λ code.function) (λ κs. (ptr-vals, (uint-vals w32, tt))) (λ κs. (mut-tells (named 0) (κs .0) T.the-row, (uint-tells w32, tt)))
       (λ κs qs bounds a _ are. via 𝓤 _ (fst∗ 𝓤 _ (emp 𝓤)) (walk 𝓤 H A W at-mem run (κs .0) (qs .0) (a .0 .ptr .0) (a .0 .ptr .1) (a .0 .name) (a .0 .now) (a .1 .0) (are .1 .0 .1) C Λ fm known-step known-number))
@@ -147,7 +147,7 @@ module _ {M : Type 1} (𝓤 : URA M) (H : Heap 𝓤) (A : Atoms 𝓤) (W : Given
   goes = (goes-gave-ref 𝓤 H A W 1 0 tt (plain (λ _. T.the-row)), (goes-none 𝓤 H A W 1 (λ _. u32) yes (λ κs x f. refl), tt))
 
 step-meets : {M : Type 1} (𝓤 : URA M) (H : Heap 𝓤) (A : Atoms 𝓤) (W : Given 𝓤 H A) (at-mem : Memory → SProp 𝓤) (run : Routine → Fun 𝓤) (𝓣 : Tables 𝓤 H)
-    → Triple 𝓤 (𝓣 .C #lent·step) (Step 𝓤 H A at-mem run) → Triple 𝓤 (𝓣 .C #registers·Reply·number) (Number 𝓤 H A at-mem run)
+    → Triple 𝓤 (𝓣 .C #lent·step) (Step 𝓤 H A at-mem run) → Triple 𝓤 (𝓣 .C #replies·Reply·number) (Number 𝓤 H A at-mem run)
     → Meets 𝓤 H A f.signature (WpFn 𝓤 H (𝓣 .C) (𝓣 .Λ) code.function) (f.spec 𝓤 H A at-mem run)
 step-meets 𝓤 H A W at-mem run 𝓣 known-step known-number = walk-meets 𝓤 H A f.ended stayed W (goes 𝓤 H A W at-mem run) (f.clauses 𝓤 H A at-mem run) (WpFn 𝓤 H (𝓣 .C) (𝓣 .Λ) code.function) (WpFn-mono 𝓤 H (W .laws) 𝓣 code.function)
     (step-walks 𝓤 H A W at-mem run (𝓣 .C) (𝓣 .Λ) (fmOf 𝓤 H (W .laws) 𝓣) known-step known-number)
@@ -159,4 +159,4 @@ plokamyr-step-spec 𝓤 H 𝓜 𝓖 𝓡 =
     (tables 𝓤 H 𝓜 𝓡 code.env .C) (tables 𝓤 H 𝓜 𝓡 code.env .Λ) #capi·plokamyr-step code.function (code.unfolded 𝓤 H 𝓜 𝓡)
     (step-meets 𝓤 H (𝓖 .A) (givenOf 𝓤 H 𝓜 𝓖) (𝓜 .mem) (𝓡 .run) (tablesOf 𝓤 H 𝓜 (tables 𝓤 H 𝓜 𝓡 code.env))
     (cited 𝓤 H (Step 𝓤 H (𝓖 .A) (𝓜 .mem) (𝓡 .run)) 𝓜 𝓡 code.env #lent·step step-def.routine code.calls-lent·step (step-thm.met 𝓤 H 𝓜 𝓖 𝓡))
-    (cited 𝓤 H (Number 𝓤 H (𝓖 .A) (𝓜 .mem) (𝓡 .run)) 𝓜 𝓡 code.env #registers·Reply·number number-def.routine code.calls-registers·Reply·number (number-thm.met 𝓤 H 𝓜 𝓖 𝓡)))
+    (cited 𝓤 H (Number 𝓤 H (𝓖 .A) (𝓜 .mem) (𝓡 .run)) 𝓜 𝓡 code.env #replies·Reply·number number-def.routine code.calls-replies·Reply·number (number-thm.met 𝓤 H 𝓜 𝓖 𝓡)))

@@ -1,7 +1,7 @@
 -- `words_reply` meets its contract. Assumes nothing.
 use mathlib.Core.Path.{_≡_}
 use native.Mathlib.Omega.{arith}
-use Rattle.registers.specs.declared.Reply.the-variants as R
+use Rattle.replies.specs.declared.Reply.the-variants as R
 use Rattle.image.specs.Reading.{sectionFault, wordsReply}
 use Rattle.image.proofs.Sections.{refused, none, whole, words-long, words-crowded, words-done}
 use borrow.Author.Needs.{needs}

@@ -1,7 +1,7 @@
 -- `write` meets its contract. Assumes nothing.
 use mathlib.Core.Path.{sym, _∙_}
 use native.Mathlib.Omega.{arith}
-use Rattle.registers.specs.declared.Reply.the-variants as R
+use Rattle.replies.specs.declared.Reply.the-variants as R
 use Rattle.registers.proofs.Registers.{Sized, length-mapped}
 use Rattle.image.proofs.Writings.{legal-vl, image-length, lawful, reply-illegal, reply-many, reply-small, answer-refused, answer-done}
 use borrow.Author.Needs.{needs}

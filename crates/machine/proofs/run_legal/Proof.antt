@@ -6,7 +6,7 @@ use native.Mathlib.Omega.{arith}
 use lib.ListN.{length, drop, getD}
 use borrow.Author.Needs.{needs}
 use Rattle.predicates.specs.Predicate.{allFalse}
-use Rattle.registers.specs.Reply.{numberOf}
+use Rattle.replies.specs.Reply.{numberOf}
 use Rattle.registers.specs.State.{withX, withP}
 use Rattle.registers.proofs.Registers.{Sized, withX-out, withP-out, length-mapped}
 use Rattle.machine.specs.Effect.{setFlags}

@@ -14,7 +14,7 @@ use Rattle.predicates.specs.declared.Predicate.{Predicate}
 use Rattle.predicates.specs.Predicate.{elements}
 use Rattle.predicates.proofs.ElementBits.{in-bits}
 use Rattle.predicates.proofs.Live.{elements-fit, elements-le}
-use Rattle.registers.specs.declared.Reply.the-variants.{Done, BudgetSpent}
+use Rattle.replies.specs.declared.Reply.the-variants.{Done, BudgetSpent}
 use Rattle.registers.specs.declared.State.{State}
 use Rattle.registers.specs.State.{withP, withFlags}
 use denote.Ref.{now}

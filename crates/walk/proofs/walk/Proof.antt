@@ -6,12 +6,12 @@ use lib.ListN.{length}
 use native.Mathlib.Omega.{arith}
 use borrow.Author.Needs.{needs}
 use Rattle.bits.specs.declared.Size.{Size}
-use Rattle.registers.specs.declared.Reply.the-variants.{Done}
+use Rattle.replies.specs.declared.Reply.the-variants.{Done}
 use Rattle.registers.specs.declared.State.{State}
-use Rattle.registers.specs.Reply.{numberOf}
+use Rattle.replies.specs.Reply.{numberOf}
 use Rattle.registers.specs.State.{readX}
 use Rattle.registers.proofs.Registers.{length-mapped}
-use Rattle.registers.proofs.Replies.{number-done}
+use Rattle.replies.proofs.Replies.{number-done}
 use Rattle.words.specs.Words.{sizeOf}
 use denote.Ref.{now}
 use Rattle.walk.specs.declared.Walked.{Walked}

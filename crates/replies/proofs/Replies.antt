@@ -1,9 +1,9 @@
 -- Laws of the replies' numbers. Assumes nothing.
 use mathlib.Core.Path.{_≡_, refl}
 use native.Mathlib.Omega.{arith}
-use Rattle.registers.specs.declared.Reply.{Reply}
-use Rattle.registers.specs.declared.Reply.the-variants as R
-use Rattle.registers.specs.Reply.{numberOf}
+use Rattle.replies.specs.declared.Reply.{Reply}
+use Rattle.replies.specs.declared.Reply.the-variants as R
+use Rattle.replies.specs.Reply.{numberOf}
 
 -- 0 is the number of one reply
 pub number-done : (r : Reply) → numberOf r ≡ 0 → r ≡ R.Done

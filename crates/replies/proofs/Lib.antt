@@ -1,0 +1,2 @@
+-- Laws of the replies. Callers' proofs cite them.
+pub mod Replies

@@ -1,0 +1,50 @@
+// The replies: what a request is answered with, and the paper's number of each.
+ghost use mathlib.Core.Path.{_≡_};
+ghost use Rattle.replies.specs.Reply.{numberOf, isDone};
+
+// What a request is answered with.
+pub enum Reply {
+    Done,
+    UnknownWord,
+    LevelTooLow,
+    AccessOff,
+    IllegalState,
+    ImageCut,
+    NotAllowed,
+    TrailingBytes,
+    BufferTooSmall,
+    FieldPastRange,
+    BadWalkRegisters,
+    ListTooShort,
+    BudgetSpent,
+}
+
+impl Reply {
+    // The paper's number of a reply.
+    pub fn number(self) -> u8
+        ensures { λ r. ⌜ r ≡ numberOf self ⌝ }
+    {
+        match self {
+            Reply::Done => 0,
+            Reply::UnknownWord => 1,
+            Reply::LevelTooLow => 2,
+            Reply::AccessOff => 3,
+            Reply::IllegalState => 4,
+            Reply::ImageCut => 5,
+            Reply::NotAllowed => 6,
+            Reply::TrailingBytes => 7,
+            Reply::BufferTooSmall => 8,
+            Reply::FieldPastRange => 9,
+            Reply::BadWalkRegisters => 10,
+            Reply::ListTooShort => 11,
+            Reply::BudgetSpent => 12,
+        }
+    }
+
+    // Whether nothing was refused.
+    pub fn is_done(self) -> bool
+        ensures { λ r. ⌜ r ≡ isDone self ⌝ }
+    {
+        self.number() == 0
+    }
+}
