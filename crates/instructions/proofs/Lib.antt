@@ -1,5 +1,5 @@
 -- Laws of the instructions. Callers' proofs cite them.
 pub mod Effects
-pub mod Whiles
-pub mod Counters
-pub mod Searched
+pub mod WhileLaws
+pub mod CounterLaws
+pub mod SearchLaws

@@ -2,12 +2,22 @@
 use Prim.Native.Nat.{ℕ, suc, _+_, _-_, _*_, _/_, _^_}
 use mathlib.Core.Bool.{Bool, true, false, not, _&&_}
 use lib.Dec.{ltb, eqb}
-use Rattle.bits.specs.Bits.{number}
+use mir.Syntax.{w64}
+use Rattle.bits.specs.declared.Size.{Size}
+use Rattle.bits.specs.Bits.{testBit, number}
 use Rattle.bits.specs.Choice.{pick, digit}
-use Rattle.bits.specs.Search.{firstFrom}
+use Rattle.bits.specs.Search.{count, firstFrom}
+use Rattle.bits.specs.Size.{shift}
 use Rattle.predicates.specs.declared.Flags.{Flags}
 use Rattle.predicates.specs.declared.Predicate.{Predicate}
-use Rattle.predicates.specs.Predicate.{bitAt, spread, predicateLength}
+use Rattle.predicates.specs.Predicate.{bitAt, pack, spread, predicateLength, elements}
+use Rattle.scalars.specs.declared.Condition.{Condition}
+use Rattle.scalars.specs.While.{upward, comparison, heldOf}
+use Rattle.instructions.specs.Effect.{Effect, givesX, givesPF}
+
+-- the elements of a group of two vectors, or of four
+abbrev pub groupOf : Bool → ℕ → ℕ
+groupOf four n = pick four (4 * n) (2 * n)
 
 -- bit 15 is the inversion; below it the count stands above the mark 1, 10, 100, 1000
 abbrev pub stored : Bool → ℕ → ℕ → ℕ
@@ -42,3 +52,14 @@ counterElement vl j p e = ltb e (4 * (predicateLength vl / 2 ^ j)) && pick (bitA
 -- the counter expanded: true at the lowest bit of each of those elements; no element if there is no mark
 unfoldable pub expanded : ℕ → Predicate → ℕ → Bool
 expanded vl p b = ltb (markOf p) 4 && spread (markOf p) (counterElement vl (markOf p) p) b
+
+-- WHILE into a counter
+unfoldable pub whileCounterOf : Condition → Bool → Bool → Size → ℕ → ℕ → ℕ → Effect
+whileCounterOf c unsigned four size rn rm vl =
+    let g = groupOf four (elements vl size) in
+    let n = heldOf (comparison w64 unsigned c rn rm) g in
+    givesPF (pack (testBit (counterOf (upward c) g n (shift size)))) (counterFlags (upward c) g n)
+
+-- CNTP of a counter: at the instruction's own size, the elements of a group that are true
+unfoldable pub cntpCounterOf : Bool → Size → Predicate → ℕ → Effect
+cntpCounterOf four size pn vl = givesX (count (λ e. expanded vl pn (e * 2 ^ shift size)) (groupOf four (elements vl size)))

@@ -1,28 +1,46 @@
--- What an instruction does to the state: at most one X register, two P registers and the flags.
--- X number 31, P number 16 and flags 16 stand for none.
+-- What an instruction gives: values for the registers that it writes, and flags. `registersOf` says where they go, and so whether they go anywhere:
+-- what an instruction does not give is zero here.
 use Prim.Native.Nat.{ℕ}
+use mathlib.Core.Bool.{false}
 use Rattle.predicates.specs.declared.Flags.{Flags}
 use Rattle.predicates.specs.declared.Predicate.{Predicate}
 use Rattle.predicates.specs.Predicate.{allFalse}
-use Rattle.predicates.specs.PredTest.{nzcv}
-use Rattle.instructions.specs.declared.Effect.{Effect}
+use Rattle.predicates.specs.PredTest.{nzcv, flagsOf}
+use Rattle.instructions.specs.declared.effect.Computed.{Computed}
 
--- Xr becomes v
-abbrev pub writesX : ℕ → ℕ → Effect
-writesX r v = record { predicate = allFalse; other = allFalse; value = v; x = r; p = 16; second = 16; flags = 16 }
+pub record Effect : Type 0 where
+  pub rd : ℕ
+  pub pd : Predicate
+  pub pd2 : Predicate
+  pub flags : Flags
 
--- Pr becomes q
-abbrev pub writesP : ℕ → Predicate → Effect
-writesP r q = record { predicate = q; other = allFalse; value = 0; x = 31; p = r; second = 16; flags = 16 }
+abbrev pub noFlags : Flags
+noFlags = record { n = false; z = false; c = false; v = false }
 
--- Pr becomes q, and the flags f
-abbrev pub writesPF : ℕ → Predicate → Flags → Effect
-writesPF r q f = record { predicate = q; other = allFalse; value = 0; x = 31; p = r; second = 16; flags = nzcv f }
+-- a value for Rd
+abbrev pub givesX : ℕ → Effect
+givesX v = record { rd = v; pd = allFalse; pd2 = allFalse; flags = noFlags }
 
--- Pr becomes q, Pt becomes o, and the flags f
-abbrev pub writesPPF : ℕ → Predicate → ℕ → Predicate → Flags → Effect
-writesPPF r q t o f = record { predicate = q; other = o; value = 0; x = 31; p = r; second = t; flags = nzcv f }
+-- a predicate for Pd
+abbrev pub givesP : Predicate → Effect
+givesP q = record { rd = 0; pd = q; pd2 = allFalse; flags = noFlags }
 
--- the flags become f
-abbrev pub writesF : Flags → Effect
-writesF f = record { predicate = allFalse; other = allFalse; value = 0; x = 31; p = 16; second = 16; flags = nzcv f }
+-- a predicate for Pd, and flags
+abbrev pub givesPF : Predicate → Flags → Effect
+givesPF q f = record { rd = 0; pd = q; pd2 = allFalse; flags = f }
+
+-- a pair of predicates, and flags
+abbrev pub givesPPF : Predicate → Predicate → Flags → Effect
+givesPPF q o f = record { rd = 0; pd = q; pd2 = o; flags = f }
+
+-- flags
+abbrev pub givesF : Flags → Effect
+givesF f = record { rd = 0; pd = allFalse; pd2 = allFalse; flags = f }
+
+-- an effect as the code has it: the flags are the number NZCV
+abbrev pub computed : Effect → Computed
+computed e = record { pd = e .pd; pd2 = e .pd2; rd = e .rd; nzcv = nzcv (e .flags) }
+
+-- the effect that such a record stands for
+abbrev pub effectIn : Computed → Effect
+effectIn c = record { rd = c .rd; pd = c .pd; pd2 = c .pd2; flags = flagsOf (c .nzcv) }

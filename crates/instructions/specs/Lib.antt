@@ -1,5 +1,7 @@
+pub mod Operands
 pub mod Effect
-pub mod While
+pub mod Whiles
 pub mod Counter
+pub mod Counts
+pub mod Searches
 pub mod Instructions
-pub mod Registers

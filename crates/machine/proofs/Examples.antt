@@ -20,14 +20,16 @@ use Rattle.words.specs.declared.Instruction.{Instruction}
 use Rattle.words.specs.declared.Instruction.the-variants.{While, Saturating, IncDec, Pnext}
 use Rattle.words.specs.declared.Target.the-variants.{One, Pair, Counter}
 use Rattle.words.specs.Words.{firstOf, decodeOf, wordOf, fieldsOf}
-use Rattle.instructions.specs.Counter.{counterOf, counterFlags}
-use Rattle.instructions.specs.Instructions.{whileOne, whilePair, whileCounter, incDec, saturatingIncDec, pnext, computeOf}
-use Rattle.instructions.specs.While.{allHeld, whileElement}
+use Rattle.instructions.specs.Counter.{counterOf, counterFlags, whileCounterOf}
+use Rattle.instructions.specs.Counts.{incDecOf, saturatingOf}
+use Rattle.instructions.specs.Instructions.{computeOf}
+use Rattle.instructions.specs.Searches.{pnextOf}
+use Rattle.instructions.specs.Whiles.{allHeld, whileElement, whileOneOf, whilePairOf}
 use Rattle.scalars.specs.Saturate.{clamp, saturating}
 use Rattle.scalars.specs.While.{operandAt, comparison}
 use Rattle.machine.specs.declared.Stepped.{Stepped}
-use Rattle.machine.specs.Effect.{setFlags, apply}
-use Rattle.machine.specs.Step.{effectOf, executeOf, afterWord, stepOf}
+use Rattle.machine.specs.Execute.{apply, executeOf}
+use Rattle.machine.specs.Step.{afterWord, stepOf}
 
 -- VL 128, level 3, access on; X1 and X2, P0 and P1 as given, all else zero
 start : ℕ → ℕ → ℕ → ℕ → State
@@ -88,5 +90,5 @@ examples =
     ∷ []
 
 pub fourteen : map (λ e. e .got) examples ≡ map (λ e. e .wanted) examples
-unfolding start seen after gives read one examples testBit number elementBit count some afterLast scan bitAt pack active spread elements predicateLength hasBitFrom atLowest atHighest predTest nzcv flagsOf isLength hasStrayBit illegal withX withP withFlags firstOf operandAt comparison clamp saturating allHeld whileElement counterOf counterFlags whileOne whilePair whileCounter incDec saturatingIncDec pnext computeOf setFlags apply effectOf executeOf afterWord stepOf
+unfolding start seen after gives read one examples testBit number elementBit count some afterLast scan bitAt pack active spread elements predicateLength hasBitFrom atLowest atHighest predTest nzcv flagsOf isLength hasStrayBit illegal withX withP withFlags firstOf operandAt comparison clamp saturating allHeld whileElement counterOf counterFlags whileOneOf whilePairOf whileCounterOf incDecOf saturatingOf pnextOf computeOf apply executeOf afterWord stepOf
 fourteen = refl

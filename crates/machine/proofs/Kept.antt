@@ -17,7 +17,6 @@ use Rattle.bits.specs.Search.{firstFrom}
 use Rattle.bits.specs.Size.{shift}
 use Rattle.bits.proofs.Searches.{digit-lt}
 use Rattle.predicates.specs.declared.Predicate.{Predicate}
-use Rattle.predicates.specs.PredTest.{flagsOf}
 use Rattle.predicates.specs.Predicate.{pack, allFalse, active, spread, elements, predicateLength, hasBitFrom}
 use Rattle.predicates.proofs.Lengths.{length-quads}
 use Rattle.predicates.proofs.Live.{elements-fit, elements-within}
@@ -32,20 +31,23 @@ use Rattle.words.specs.declared.Instruction.{Instruction}
 use Rattle.words.specs.declared.Instruction.the-variants.{While, Saturating, IncDec, Cntp, CntpCounter, Pnext, Pfirst, Ptest, Pfalse}
 use Rattle.words.specs.declared.Target.{Target}
 use Rattle.words.specs.declared.Target.the-variants.{One, Pair, Counter}
-use Rattle.instructions.specs.declared.Effect.{Effect}
-use Rattle.instructions.specs.Counter.{stored, counterOf}
-use Rattle.instructions.specs.Instructions.{whileOne, whilePair, whileCounter, whileOf, groupOf, incDec, saturatingIncDec, cntp, cntpCounter, nextElement, nextOf, pnext, firstOf, pfirst, ptest, computeOf}
-use Rattle.instructions.specs.While.{allHeld, whileElement, lowHalf, highHalf}
+use Rattle.instructions.specs.declared.operands.Registers.{Registers}
+use Rattle.instructions.specs.Effect.{Effect}
+use Rattle.instructions.specs.Counter.{groupOf, stored, counterOf, whileCounterOf, cntpCounterOf}
+use Rattle.instructions.specs.Counts.{incDecOf, saturatingOf, cntpOf}
+use Rattle.instructions.specs.Searches.{nextElement, nextResult, pnextOf, firstResult, pfirstOf, ptestOf}
+use Rattle.instructions.specs.Instructions.{whileOf, computeOf}
+use Rattle.instructions.specs.Operands.{registersOf}
+use Rattle.instructions.specs.Whiles.{allHeld, whileElement, lowHalf, highHalf, whileOneOf, whilePairOf}
 use Rattle.scalars.specs.While.{upward, comparison, heldOf}
-use Rattle.instructions.proofs.Whiles.{held-le}
-use Rattle.machine.specs.Effect.{setFlags, apply}
-use Rattle.machine.specs.Step.{effectOf, executeOf}
-use Rattle.machine.proofs.Frame.{flags-settings}
+use Rattle.instructions.proofs.WhileLaws.{held-le}
+use Rattle.machine.specs.Execute.{valuesOf, apply, executeOf}
+use Rattle.machine.proofs.Frame.{beside-flags}
 
 -- the predicates of an effect have no bit at or above PL
 pub record Within (vl : ℕ) (e : Effect) : Type 0 where
-  pub predicate : hasBitFrom (predicateLength vl) (e .predicate) ≡ false
-  pub other : hasBitFrom (predicateLength vl) (e .other) ≡ false
+  pub pd : hasBitFrom (predicateLength vl) (e .pd) ≡ false
+  pub pd2 : hasBitFrom (predicateLength vl) (e .pd2) ≡ false
 
 -- ---- predicates made of at most E elements
 
@@ -103,78 +105,79 @@ module _ (s : State) (ok : legal s ≡ true) (sized : Sized s) where
   none = false-within (predicateLength (s .vl))
 
   while-within : (c : Condition) (u : Bool) (t : Target) (size : Size) (a b : ℕ) → Within (s .vl) (whileOf c u t size a b (s .vl))
-  unfolding whileOne whilePair whileCounter
-  while-within c u (One sf pd) size a b = record { predicate = elements-in (s .vl) size _ (λ e h. while-past _ _ _ e h); other = none }
+  unfolding whileOneOf whilePairOf whileCounterOf
+  while-within c u (One sf pd) size a b = record { pd = elements-in (s .vl) size _ (λ e h. while-past _ _ _ e h); pd2 = none }
   while-within c u (Pair pd) size a b =
       let n = elements (s .vl) size in
       let q = whileElement (upward c) (comparison w64 u c a b) (2 * n) in
-      record { predicate = elements-in (s .vl) size _ (low-past n q); other = elements-in (s .vl) size _ (high-past n q) }
+      record { pd = elements-in (s .vl) size _ (low-past n q); pd2 = elements-in (s .vl) size _ (high-past n q) }
   while-within c u (Counter four pnd) size a b =
       let n = elements (s .vl) size in
       let g = groupOf four n in
       let count-lt = counter-lt (upward c) g (heldOf (comparison w64 u c a b) g) n (shift size) (held-le (comparison w64 u c a b) g) (group-le four n) (elements-fit (s .vl) size) in
-      record { predicate = word-within (predicateLength (s .vl)) _ (lt-of-lt-of-le count-lt (pow-mono {i = 16} {j = predicateLength (s .vl)} pl-large)); other = none }
+      record { pd = word-within (predicateLength (s .vl)) _ (lt-of-lt-of-le count-lt (pow-mono {i = 16} {j = predicateLength (s .vl)} pl-large)); pd2 = none }
 
-  next-within : (size : Size) (v dn : Predicate) → hasBitFrom (predicateLength (s .vl)) (nextOf size v dn (s .vl)) ≡ false
+  next-within : (size : Size) (v dn : Predicate) → hasBitFrom (predicateLength (s .vl)) (nextResult size v dn (s .vl)) ≡ false
   next-within size v dn = go (ltb (nextElement size v dn (s .vl)) (elements (s .vl) size)) refl
     where
-      go : (t : Bool) → ltb (nextElement size v dn (s .vl)) (elements (s .vl) size) ≡ t → hasBitFrom (predicateLength (s .vl)) (nextOf size v dn (s .vl)) ≡ false
+      go : (t : Bool) → ltb (nextElement size v dn (s .vl)) (elements (s .vl) size) ≡ t → hasBitFrom (predicateLength (s .vl)) (nextResult size v dn (s .vl)) ≡ false
       go true e = rw e (elements-in (s .vl) size _ (λ i h. ne-eqb i (nextElement size v dn (s .vl)) (omega (arith, ltb-true (nextElement size v dn (s .vl)) (elements (s .vl) size) e))))
       go false e = rw e none
 
-  first-within : (g : Predicate) (r : ℕ) → hasBitFrom (predicateLength (s .vl)) (firstOf g (readP s r) (s .vl)) ≡ false
+  first-within : (g : Predicate) (r : ℕ) → hasBitFrom (predicateLength (s .vl)) (firstResult g (readP s r) (s .vl)) ≡ false
   first-within g r = go (ltb (firstFrom (active 0 g) 0 (elements (s .vl) Sz.B)) (elements (s .vl) Sz.B)) refl
     where
       past-pl : (b : ℕ) → predicateLength (s .vl) ≤ b → ltb (firstFrom (active 0 g) 0 (elements (s .vl) Sz.B)) (elements (s .vl) Sz.B) ≡ true
           → b ≡ firstFrom (active 0 g) 0 (elements (s .vl) Sz.B) → ⊥
       past-pl b l t h = omega (arith, ltb-true (firstFrom (active 0 g) 0 (elements (s .vl) Sz.B)) (elements (s .vl) Sz.B) t, elements-within (s .vl) Sz.B, mul-one (elements (s .vl) Sz.B))
 
-      go : (t : Bool) → ltb (firstFrom (active 0 g) 0 (elements (s .vl) Sz.B)) (elements (s .vl) Sz.B) ≡ t → hasBitFrom (predicateLength (s .vl)) (firstOf g (readP s r) (s .vl)) ≡ false
+      go : (t : Bool) → ltb (firstFrom (active 0 g) 0 (elements (s .vl) Sz.B)) (elements (s .vl) Sz.B) ≡ t → hasBitFrom (predicateLength (s .vl)) (firstResult g (readP s r) (s .vl)) ≡ false
       go true e = rw e (none-within (predicateLength (s .vl)) _ (λ b l m. ap₂ _||_ (within-none (predicateLength (s .vl)) (readP s r) (read-within r) b l m) (ne-eqb b (firstFrom (active 0 g) 0 (elements (s .vl) Sz.B)) (past-pl b l e))))
       go false e = rw e (read-within r)
 
-  pub effect-within : (i : Instruction) → Within (s .vl) (effectOf s i)
-  unfolding effectOf computeOf incDec saturatingIncDec cntp cntpCounter pnext pfirst ptest
+  pub effect-within : (i : Instruction) → Within (s .vl) (computeOf i (valuesOf s (registersOf i)) (s .vl))
+  unfolding computeOf incDecOf saturatingOf cntpOf cntpCounterOf pnextOf pfirstOf ptestOf
   effect-within (While c u t size rn rm) = while-within c u t size (readX s rn) (readX s rm)
-  effect-within (Saturating d u sf size pm rdn) = record { predicate = none; other = none }
-  effect-within (IncDec d size pm rdn) = record { predicate = none; other = none }
-  effect-within (Cntp size pg pn rd) = record { predicate = none; other = none }
-  effect-within (CntpCounter four size pnn rd) = record { predicate = none; other = none }
-  effect-within (Pnext size pv pdn) = record { predicate = next-within size (readP s pv) (readP s pdn); other = none }
-  effect-within (Pfirst pg pdn) = record { predicate = first-within (readP s pg) pdn; other = none }
-  effect-within (Ptest pg pn) = record { predicate = none; other = none }
-  effect-within (Pfalse pd) = record { predicate = none; other = none }
+  effect-within (Saturating d u sf size pm rdn) = record { pd = none; pd2 = none }
+  effect-within (IncDec d size pm rdn) = record { pd = none; pd2 = none }
+  effect-within (Cntp size pg pn rd) = record { pd = none; pd2 = none }
+  effect-within (CntpCounter four size pnn rd) = record { pd = none; pd2 = none }
+  effect-within (Pnext size pv pdn) = record { pd = next-within size (readP s pv) (readP s pdn); pd2 = none }
+  effect-within (Pfirst pg pdn) = record { pd = first-within (readP s pg) pdn; pd2 = none }
+  effect-within (Ptest pg pn) = record { pd = none; pd2 = none }
+  effect-within (Pfalse pd) = record { pd = none; pd2 = none }
 
 -- ---- an effect within PL keeps legality
 
-flags-legal : (s : State) (f : ℕ) → legal (setFlags s f) ≡ legal s
-unfolding setFlags
-flags-legal s f = go (ltb f 16)
-  where
-    go : (b : Bool) → legal (pick b (withFlags s (flagsOf f)) s) ≡ legal s
-    go true = withFlags-legal s (flagsOf f)
-    go false = refl
+module _ (s : State) (r : Registers) (e : Effect) where
+  abbrev flagged : State
+  flagged = pick (r .flags) (withFlags s (e .flags)) s
 
-written-vl : (s : State) (f r v : ℕ) → withX (setFlags s f) r v .vl ≡ s .vl
-unfolding withX
-written-vl s f r v = flags-settings s f .vl
+  flagged-legal : legal flagged ≡ legal s
+  flagged-legal = go (r .flags)
+    where
+      go : (b : Bool) → legal (pick b (withFlags s (e .flags)) s) ≡ legal s
+      go true = withFlags-legal s (e .flags)
+      go false = refl
 
-written-p : (t : State) (r : ℕ) (q : Predicate) → withP t r q .vl ≡ t .vl
-unfolding withP
-written-p t r q = refl
+  written-vl : withX flagged (r .rd) (e .rd) .vl ≡ s .vl
+  unfolding withX
+  written-vl = beside-flags s (r .flags) (e .flags) .vl
 
-pub apply-legal : (s : State) (e : Effect) → legal s ≡ true → Within (s .vl) e → legal (apply s e) ≡ true
-unfolding apply
-apply-legal s e h k =
-    let t = withX (setFlags s (e .flags)) (e .x) (e .value) in
-    let same : t .vl ≡ s .vl = written-vl s (e .flags) (e .x) (e .value) in
-    let first : legal (withP t (e .p) (e .predicate)) ≡ true =
-    withP-legal t (e .p) (e .predicate) (ap (λ (v : ℕ). hasBitFrom (predicateLength v) (e .predicate)) same ∙ k .predicate)
-    (withX-legal (setFlags s (e .flags)) (e .x) (e .value) ∙ flags-legal s (e .flags) ∙ h) in
-    withP-legal (withP t (e .p) (e .predicate)) (e .second) (e .other)
-    (ap (λ (v : ℕ). hasBitFrom (predicateLength v) (e .other)) (written-p t (e .p) (e .predicate) ∙ same) ∙ k .other) first
+  written-p : (t : State) (n : ℕ) (q : Predicate) → withP t n q .vl ≡ t .vl
+  unfolding withP
+  written-p t n q = refl
+
+  pub apply-legal : legal s ≡ true → Within (s .vl) e → legal (apply s r e) ≡ true
+  unfolding apply
+  apply-legal h k =
+      let t = withX flagged (r .rd) (e .rd) in
+      let first : legal (withP t (r .pd) (e .pd)) ≡ true =
+      withP-legal t (r .pd) (e .pd) (ap (λ (v : ℕ). hasBitFrom (predicateLength v) (e .pd)) written-vl ∙ k .pd) (withX-legal flagged (r .rd) (e .rd) ∙ flagged-legal ∙ h) in
+      withP-legal (withP t (r .pd) (e .pd)) (r .pd2) (e .pd2)
+      (ap (λ (v : ℕ). hasBitFrom (predicateLength v) (e .pd2)) (written-p t (r .pd) (e .pd) ∙ written-vl) ∙ k .pd2) first
 
 -- an accepted step leaves a legal state legal
 pub execute-legal : (s : State) (i : Instruction) → Sized s → legal s ≡ true → legal (executeOf s i) ≡ true
 unfolding executeOf
-execute-legal s i sized ok = apply-legal s (effectOf s i) ok (effect-within s ok sized i)
+execute-legal s i sized ok = apply-legal s (registersOf i) (computeOf i (valuesOf s (registersOf i)) (s .vl)) ok (effect-within s ok sized i)

@@ -1,5 +1,7 @@
--- Theorems about the machine: what an instruction leaves alone, that a legal state stays legal, and that a run is its steps.
+-- Laws of the machine. Callers' proofs cite them.
+pub mod Executing
 pub mod Frame
 pub mod Kept
 pub mod Steps
+pub mod Replies
 pub mod Examples

@@ -1,73 +1,155 @@
--- A run is its steps; an instruction that is executed is one that a word was read as. Assumes nothing.
+-- A step and a run, from what each part of the code gives; a run is its steps. Assumes nothing.
 use mathlib.Core.Bool.{Bool, true, false, not}
-use mathlib.Core.List.{List}
-use mathlib.Core.Path.{_≡_, refl, sym, ap, ap₂, _∙_, subst}
+use mathlib.Core.List.{List, [], _∷_}
+use mathlib.Core.Path.{_≡_, refl, sym, ap, _∙_, subst}
 use Prim.Native.Nat.{ℕ, suc, _+_, _≤_, _<_}
 use native.Mathlib.Numerals.{add-one}
 use native.Mathlib.Omega.{arith}
-use lib.Dec.{ltb, eqb}
-use lib.ListN.{length, length-set, getD, set, drop, drop-of-length-le, List·getD-eq-default}
+use lib.ListN.{length, getD, drop, drop-of-length-le}
 use lib.Seq.{drop-cons}
-use borrow.Author.Tests.{eq-eqb, ne-eqb, lt-ltb, le-ltb, not-true, not-false}
+use borrow.Author.Tests.{lt-ltb, le-ltb, not-true, not-false}
 use Rattle.bits.specs.Choice.{pick}
 use Rattle.bits.proofs.Searches.{never}
-use Rattle.predicates.specs.declared.Flags.{Flags}
 use Rattle.predicates.specs.declared.Predicate.{Predicate}
-use Rattle.predicates.specs.PredTest.{flagsOf}
-use Rattle.predicates.specs.Predicate.{allFalse}
 use Rattle.replies.specs.declared.Reply.{Reply}
 use Rattle.replies.specs.declared.Reply.the-variants.{Done, LevelTooLow, AccessOff, IllegalState}
+use Rattle.replies.specs.Reply.{isDone}
 use Rattle.registers.specs.declared.State.{State}
+use Rattle.registers.specs.declared.parts.Settings.{Settings}
 use Rattle.registers.specs.Legal.{legal}
-use Rattle.replies.specs.Reply.{numberOf}
-use Rattle.registers.specs.State.{withX, withP, withFlags}
-use Rattle.registers.proofs.Registers.{Sized, default-any}
+use Rattle.registers.specs.Parts.{predicatesOf, flagsAt, stateAt}
+use Rattle.registers.proofs.Registers.{Sized}
 use Rattle.words.specs.declared.Decoded.{Decoded}
 use Rattle.words.specs.declared.Decoded.the-variants.{Ours, Refused}
 use Rattle.words.specs.declared.Instruction.{Instruction}
 use Rattle.words.specs.Words.{decodeOf, levelOf}
-use Rattle.instructions.specs.declared.Effect.{Effect}
-use Rattle.instructions.specs.Instructions.{computeOf}
-use Rattle.instructions.specs.declared.named.Operands.{Operands}
-use Rattle.instructions.specs.Registers.{operandsOf}
+use Rattle.machine.specs.declared.Ran.{Ran}
 use Rattle.machine.specs.declared.Stepped.{Stepped}
-use Rattle.machine.specs.Effect.{setFlags, apply}
-use Rattle.machine.specs.Step.{effectAt, effectOf, executeOf, admissionOf, instructionOf, answered, afterWord, stepOf, stepsOf, runOf}
-use Rattle.machine.proofs.Frame.{apply-sized, flags-some}
+use Rattle.machine.specs.Execute.{executeOf}
+use Rattle.machine.specs.Step.{admissionOf, answered, afterWord, stepOf, afterWords, runOf, stepsOf}
+use Rattle.machine.proofs.Frame.{execute-sized}
 use Rattle.machine.proofs.Kept.{execute-legal}
 
-pick-yes : {A : Type 0} (b : Bool) (x y : A) → b ≡ true → pick b x y ≡ x
+pub pick-yes : {A : Type 0} (b : Bool) (x y : A) → b ≡ true → pick b x y ≡ x
 pick-yes true x y h = refl
 pick-yes false x y h = never h refl
 
-pick-no : {A : Type 0} (b : Bool) (x y : A) → b ≡ false → pick b x y ≡ y
+pub pick-no : {A : Type 0} (b : Bool) (x y : A) → b ≡ false → pick b x y ≡ y
 pick-no false x y h = refl
 pick-no true x y h = never refl h
 
--- ---- a step
+-- ---- the refusals 2 and 3
 
--- a word that is refused is answered with the state as it was
-pub word-stops : (s : State) (d : Decoded) (r : Reply) → r ≡ admissionOf d (s .level) (s .access) → (numberOf r ≡ 0 → ⊥) → answered r s ≡ afterWord s d
+module _ (i : Instruction) (n level : ℕ) (access : Bool) (asked : n ≡ levelOf i) where
+  pub asks-more : level < n → LevelTooLow ≡ admissionOf i level access
+  asks-more l = sym (pick-yes _ _ _ (lt-ltb level (levelOf i) (omega arith)))
+
+  level-enough : n ≤ level → admissionOf i level access ≡ pick access Done AccessOff
+  level-enough l = pick-no _ _ _ (le-ltb level (levelOf i) (omega arith))
+
+  pub no-access : n ≤ level → not access ≡ true → AccessOff ≡ admissionOf i level access
+  no-access l a = sym (level-enough l ∙ pick-no _ _ _ (not-true access a))
+
+  pub admitted : n ≤ level → not access ≡ false → Done ≡ admissionOf i level access
+  admitted l a = sym (level-enough l ∙ pick-yes _ _ _ (not-false access a))
+
+-- ---- an instruction, refused or executed
+
+module _ (s : State) (i : Instruction) (r : Reply) (b : Bool) (is : r ≡ admissionOf i (s .level) (s .access)) (done : b ≡ isDone r) where
+  at-reply : answered r (pick b (executeOf s i) s) ≡ afterWord s (Ours i)
+  unfolding afterWord
+  at-reply = ap (λ (t : Bool). answered r (pick t (executeOf s i) s)) done ∙ ap (λ (q : Reply). answered q (pick (isDone q) (executeOf s i) s)) is
+
+  pub stops : not b ≡ true → answered r s ≡ afterWord s (Ours i)
+  stops h = ap (answered r) (sym (pick-no b (executeOf s i) s (not-true b h))) ∙ at-reply
+
+  pub goes : (t : State) → not b ≡ false → t ≡ executeOf s i → answered r t ≡ afterWord s (Ours i)
+  goes t h e = ap (answered r) (e ∙ sym (pick-yes b (executeOf s i) s (not-false b h))) ∙ at-reply
+
+-- ---- a word, by what it is
+
+pub word-refused : (s : State) (w : ℕ) (d : Decoded) (r : Reply) → d ≡ decodeOf w → d ≡ Refused r → answered r s ≡ afterWord s (decodeOf w)
 unfolding afterWord
-word-stops s d r e h =
-    sym (ap (λ (t : Bool). answered r (pick t (executeOf s (instructionOf d)) s)) (ne-eqb (numberOf r) 0 h))
-    ∙ ap (λ (q : Reply). answered q (pick (eqb (numberOf q) 0) (executeOf s (instructionOf d)) s)) e
+word-refused s w d r hd h = sym (ap (afterWord s) (sym hd ∙ h))
 
--- a word that is not is executed
-pub word-goes : (s t : State) (d : Decoded) (r : Reply) → r ≡ admissionOf d (s .level) (s .access) → numberOf r ≡ 0 → t ≡ executeOf s (instructionOf d) → answered r t ≡ afterWord s d
-unfolding afterWord
-word-goes s t d r e h x =
-    ap (answered r) x
-    ∙ sym (ap (λ (b : Bool). answered r (pick b (executeOf s (instructionOf d)) s)) (eq-eqb (numberOf r) 0 h))
-    ∙ ap (λ (q : Reply). answered q (pick (eqb (numberOf q) 0) (executeOf s (instructionOf d)) s)) e
+pub word-ours : (s : State) (w : ℕ) (d : Decoded) (i : Instruction) (t : Stepped) → d ≡ decodeOf w → d ≡ Ours i → t ≡ afterWord s (Ours i) → t ≡ afterWord s (decodeOf w)
+word-ours s w d i t hd h e = e ∙ sym (ap (afterWord s) (sym hd ∙ h))
 
-pub step-illegal : (s : State) (w : ℕ) (t : Bool) → t ≡ legal s → t ≡ false → answered IllegalState s ≡ stepOf s w
-unfolding stepOf
-step-illegal s w t h e = sym (ap (λ (b : Bool). pick b (afterWord s (decodeOf w)) (answered IllegalState s)) (sym h ∙ e))
+-- ---- a step, legal or not
+
+module _ (s : State) (w : ℕ) (b : Bool) (is : b ≡ legal s) where
+  pub step-illegal : not b ≡ true → answered IllegalState s ≡ stepOf s w
+  unfolding stepOf
+  step-illegal h = sym (pick-no _ _ _ (sym is ∙ not-true b h))
+
+  pub step-goes : (t : Stepped) → not b ≡ false → t ≡ afterWord s (decodeOf w) → t ≡ stepOf s w
+  unfolding stepOf
+  step-goes t h e = e ∙ sym (pick-yes _ _ _ (sym is ∙ not-false b h))
 
 pub step-legal : (s : State) (w : ℕ) → legal s ≡ true → stepOf s w ≡ afterWord s (decodeOf w)
 unfolding stepOf
-step-legal s w e = ap (λ (b : Bool). pick b (afterWord s (decodeOf w)) (answered IllegalState s)) e
+step-legal s w e = pick-yes _ _ _ e
+
+-- the same where legality was tested whatever the flags and X registers
+module _ (s : Settings) (f : List Bool) (x : List ℕ) (p : List (List ℕ)) (b : Bool) (is : (g : List Bool) → (y : List ℕ) → b ≡ legal (stateAt s g y p)) where
+  pub in-illegal : (w : ℕ) → not b ≡ true → answered IllegalState (stateAt s f x p) ≡ stepOf (stateAt s f x p) w
+  in-illegal w h = step-illegal (stateAt s f x p) w b (is f x) h
+
+  pub in-goes : (w : ℕ) (t : Stepped) → not b ≡ false → t ≡ afterWord (stateAt s f x p) (decodeOf w) → t ≡ stepOf (stateAt s f x p) w
+  in-goes w t h e = step-goes (stateAt s f x p) w b (is f x) t h e
+
+  pub run-illegal : (ws : List ℕ) → not b ≡ true → record { reply = IllegalState; refused = Done; done = 0; state = stateAt s f x p } ≡ runOf (stateAt s f x p) ws
+  unfolding runOf
+  run-illegal ws h = sym (pick-no _ _ _ (sym (is f x) ∙ not-true b h))
+
+  pub run-begins : (ws : List ℕ) → not b ≡ false → afterWords 0 (stateAt s f x p) ws ≡ runOf (stateAt s f x p) ws
+  unfolding runOf
+  run-begins ws h = sym (pick-yes _ _ _ (sym (is f x) ∙ not-false b h))
+
+-- ---- words, one after the other
+
+module _ (ws : List ℕ) where
+  pub words-end : (s : State) (done : ℕ) → length ws ≤ done → record { reply = Done; refused = Done; done = done; state = s } ≡ afterWords done s (drop done ws)
+  unfolding afterWords
+  words-end s done h = sym (ap (afterWords done s) (drop-of-length-le ws h))
+
+  module _ (s : State) (done : ℕ) (t : Stepped) (b : Bool) (below : done < length ws) (is : t ≡ afterWord s (decodeOf (getD ws done 0))) (told : b ≡ isDone (t .reply)) where
+    next-word : afterWords done s (drop done ws) ≡ pick b (afterWords (suc done) (t .state) (drop (suc done) ws)) (record { reply = Done; refused = t .reply; done = done; state = t .state })
+    unfolding afterWords
+    next-word =
+        ap (afterWords done s) (drop-cons ws done 0 below)
+        ∙ ap (λ (u : Stepped). pick (isDone (u .reply)) (afterWords (suc done) (u .state) (drop (suc done) ws)) (record { reply = Done; refused = u .reply; done = done; state = u .state })) (sym is)
+        ∙ ap (λ (c : Bool). pick c (afterWords (suc done) (t .state) (drop (suc done) ws)) (record { reply = Done; refused = t .reply; done = done; state = t .state })) (sym told)
+
+    pub words-on : not b ≡ false → afterWords (done + 1) (t .state) (drop (done + 1) ws) ≡ afterWords done s (drop done ws)
+    words-on h = rw (add-one done) (sym (next-word ∙ pick-yes _ _ _ (not-false b h)))
+
+    pub words-stop : not b ≡ true → record { reply = Done; refused = t .reply; done = done; state = t .state } ≡ afterWords done s (drop done ws)
+    words-stop h = sym (next-word ∙ pick-no _ _ _ (not-true b h))
+
+-- the turns of a run
+module _ (ws : List ℕ) (s : State) (r : Ran) (done : ℕ) (inv : afterWords done s (drop done ws) ≡ r) where
+  pub run-ends : length ws ≤ done → record { reply = Done; refused = Done; done = done; state = s } ≡ r
+  run-ends h = words-end ws s done h ∙ inv
+
+  module _ (reply : Reply) (t : State) (b : Bool) (below : done < length ws) (is : answered reply t ≡ afterWord s (decodeOf (getD ws done 0))) (told : b ≡ isDone reply) where
+    pub run-stops : not b ≡ true → record { reply = Done; refused = reply; done = done; state = t } ≡ r
+    run-stops h = words-stop ws s done (answered reply t) b below is told h ∙ inv
+
+    pub run-on : not b ≡ false → afterWords (done + 1) t (drop (done + 1) ws) ≡ r
+    run-on h = words-on ws s done (answered reply t) b below is told h ∙ inv
+
+-- ---- a run of a state by value, over its parts
+
+pub ran : (s t : State) (ws : List ℕ) (done : ℕ) (reply refused : Reply) (f : List Bool) (x : List ℕ) (p q : List (List ℕ)) (r : List Predicate)
+    → predicatesOf p ≡ s .p
+    → record { reply = reply; refused = refused; done = done; state = stateAt (record { vl = s .vl; level = s .level; access = s .access }) f x q }
+    ≡ runOf (stateAt (record { vl = s .vl; level = s .level; access = s .access }) (s .flags .n ∷ s .flags .z ∷ s .flags .c ∷ s .flags .v ∷ []) (s .x) p) ws
+    → r ≡ predicatesOf q → t ≡ record { vl = s .vl; level = s .level; access = s .access; flags = flagsAt f; x = x; p = r }
+    → record { reply = reply; refused = refused; done = done; state = t } ≡ runOf s ws
+ran s t ws done reply refused f x p q r hp h hr ht =
+    ap (λ (u : State). record { reply = reply; refused = refused; done = done; state = u }) (ht ∙ ap (λ (z : List Predicate). record { vl = s .vl; level = s .level; access = s .access; flags = flagsAt f; x = x; p = z }) hr)
+    ∙ h ∙ ap (λ (z : List Predicate). runOf (record { vl = s .vl; level = s .level; access = s .access; flags = s .flags; x = s .x; p = z }) ws) hp
 
 -- ---- a legal state stays legal, refused or not
 
@@ -76,124 +158,30 @@ pub record Kept (s : State) : Type 0 where
   pub sized : Sized s
 
 pub after-kept : (s : State) (d : Decoded) → Kept s → Kept (afterWord s d .state)
-unfolding afterWord executeOf
-after-kept s d k = go (eqb (numberOf (admissionOf d (s .level) (s .access))) 0)
+unfolding afterWord
+after-kept s (Refused r) k = k
+after-kept s (Ours i) k = go (isDone (admissionOf i (s .level) (s .access)))
   where
-    go : (b : Bool) → Kept (pick b (executeOf s (instructionOf d)) s)
-    go true = record { legal-is = execute-legal s (instructionOf d) (k .sized) (k .legal-is); sized = apply-sized s (effectOf s (instructionOf d)) (k .sized) }
+    go : (b : Bool) → Kept (pick b (executeOf s i) s)
+    go true = record { legal-is = execute-legal s i (k .sized) (k .legal-is); sized = execute-sized s i (k .sized) }
     go false = k
 
 -- the same of an answer
 pub kept-on : (s : State) (d : Decoded) (t : Stepped) → Kept s → t ≡ afterWord s d → Kept (t .state)
 kept-on s d t k e = subst (λ (x : Stepped). Kept (x .state)) (sym e) (after-kept s d k)
 
--- ---- a run, word by word
+-- ---- a run is its steps: legality, tested once, is tested before every word
 
-module _ (ws : List ℕ) where
-  pub steps-end : (s : State) (done : ℕ) → length ws ≤ done → record { done = done; reply = Done; state = s } ≡ stepsOf done s (drop done ws)
-  unfolding stepsOf
-  steps-end s done h = sym (ap (stepsOf done s) (drop-of-length-le ws h))
-
-  -- the next word
-  next-word : (s : State) (done : ℕ) → legal s ≡ true → done < length ws
-      → stepsOf done s (drop done ws) ≡ pick (eqb (numberOf (afterWord s (decodeOf (getD ws done 0)) .reply)) 0)
-      (stepsOf (suc done) (afterWord s (decodeOf (getD ws done 0)) .state) (drop (suc done) ws))
-      (record { done = done; reply = afterWord s (decodeOf (getD ws done 0)) .reply; state = afterWord s (decodeOf (getD ws done 0)) .state })
-  unfolding stepsOf
-  next-word s done k h =
-      ap (stepsOf done s) (drop-cons ws done 0 h)
-      ∙ ap (λ (t : Stepped). pick (eqb (numberOf (t .reply)) 0) (stepsOf (suc done) (t .state) (drop (suc done) ws)) (record { done = done; reply = t .reply; state = t .state })) (step-legal s (getD ws done 0) k)
-
-  pub steps-on : (s : State) (done : ℕ) (t : Stepped) → legal s ≡ true → done < length ws → t ≡ afterWord s (decodeOf (getD ws done 0)) → numberOf (t .reply) ≡ 0
-      → stepsOf (done + 1) (t .state) (drop (done + 1) ws) ≡ stepsOf done s (drop done ws)
-  steps-on s done t k h e z =
-      rw (add-one done)
-      (ap (λ (x : Stepped). stepsOf (suc done) (x .state) (drop (suc done) ws)) e
-      ∙ sym (pick-yes _ _ _ (eq-eqb (numberOf (afterWord s (decodeOf (getD ws done 0)) .reply)) 0 (sym (ap (λ (x : Stepped). numberOf (x .reply)) e) ∙ z)))
-      ∙ sym (next-word s done k h))
-
-  pub steps-stop : (s : State) (done : ℕ) (t : Stepped) → legal s ≡ true → done < length ws → t ≡ afterWord s (decodeOf (getD ws done 0)) → (numberOf (t .reply) ≡ 0 → ⊥)
-      → record { done = done; reply = t .reply; state = t .state } ≡ stepsOf done s (drop done ws)
-  steps-stop s done t k h e z =
-      ap (λ (x : Stepped). record { done = done; reply = x .reply; state = x .state }) e
-      ∙ sym (pick-no _ _ _ (ne-eqb (numberOf (afterWord s (decodeOf (getD ws done 0)) .reply)) 0 (λ y. z (ap (λ (x : Stepped). numberOf (x .reply)) e ∙ y))))
-      ∙ sym (next-word s done k h)
-
-pub run-illegal : (s : State) (ws : List ℕ) (t : Bool) → t ≡ legal s → t ≡ false → record { done = 0; reply = IllegalState; state = s } ≡ runOf s ws
-unfolding runOf
-run-illegal s ws t h e = sym (ap (λ (b : Bool). pick b (stepsOf 0 s ws) (record { done = 0; reply = IllegalState; state = s })) (sym h ∙ e))
-
-pub run-legal : (s : State) (ws : List ℕ) → legal s ≡ true → stepsOf 0 s ws ≡ runOf s ws
-unfolding runOf
-run-legal s ws e = sym (ap (λ (b : Bool). pick b (stepsOf 0 s ws) (record { done = 0; reply = IllegalState; state = s })) e)
-
--- ---- an instruction, from the values that were read
-
-pub effects : (xs : List ℕ) (ps : List Predicate) (vl : ℕ) (i : Instruction) (o : Operands) (a b : ℕ) (g q : Predicate) (e : Effect) → o ≡ operandsOf i
-    → a ≡ getD xs (o .x) 0 → b ≡ getD xs (o .limit) 0 → g ≡ getD ps (o .mask) allFalse → q ≡ getD ps (o .under) allFalse → e ≡ computeOf i a b g q vl → e ≡ effectAt xs ps vl i
-effects xs ps vl i o a b g q e eo ea eb eg eq ee =
-    ee ∙ ap₂ (λ (u v : ℕ). computeOf i u v g q vl) ea eb ∙ ap₂ (λ (u v : Predicate). computeOf i (getD xs (o .x) 0) (getD xs (o .limit) 0) u v vl) eg eq
-    ∙ ap (λ (n : Operands). computeOf i (getD xs (n .x) 0) (getD xs (n .limit) 0) (getD ps (n .mask) allFalse) (getD ps (n .under) allFalse) vl) eo
-
-pub executes : (s r : State) (i : Instruction) (e : Effect) → e ≡ effectAt (s .x) (s .p) (s .vl) i → r ≡ apply s e → r ≡ executeOf s i
-unfolding executeOf effectOf
-executes s r i e ee er = er ∙ ap (apply s) ee
-
--- ---- the reply to a word by itself
-
-pub refused-by-itself : (d : Decoded) (r : Reply) (level : ℕ) (access : Bool) → d ≡ Refused r → r ≡ admissionOf d level access
-refused-by-itself d r level access h = sym (ap (λ (e : Decoded). admissionOf e level access) h)
-
-module _ (d : Decoded) (i : Instruction) (ours : d ≡ Ours i) (n level : ℕ) (access : Bool) (en : n ≡ levelOf i) where
-  pub asks-more : level < n → LevelTooLow ≡ admissionOf d level access
-  asks-more l = sym (ap (λ (e : Decoded). admissionOf e level access) ours ∙ ap (λ (t : Bool). pick t LevelTooLow (pick access Done AccessOff)) (lt-ltb level (levelOf i) (omega arith)))
-
-  admitted-level : n ≤ level → admissionOf d level access ≡ pick access Done AccessOff
-  admitted-level l = ap (λ (e : Decoded). admissionOf e level access) ours ∙ ap (λ (t : Bool). pick t LevelTooLow (pick access Done AccessOff)) (le-ltb level (levelOf i) (omega arith))
-
-  pub no-access : n ≤ level → not access ≡ true → AccessOff ≡ admissionOf d level access
-  no-access l a = sym (admitted-level l ∙ ap (λ (t : Bool). pick t Done AccessOff) (not-true access a))
-
-  pub admitted : n ≤ level → not access ≡ false → Done ≡ admissionOf d level access
-  admitted l a = sym (admitted-level l ∙ ap (λ (t : Bool). pick t Done AccessOff) (not-false access a))
-
--- ---- a P register read in place; one past the last is all false
-
-module _ (s : State) (r : ℕ) (z : Sized s) where
-  pub p-read : (q : Predicate) → r < 16 → getD (s .p) r q ≡ getD (s .p) r allFalse
-  p-read q h = default-any (s .p) r q allFalse (omega (arith, z .ps))
-
-  pub p-unread : 16 ≤ r → allFalse ≡ getD (s .p) r allFalse
-  p-unread h = sym (List·getD-eq-default (s .p) allFalse {n = r} (omega (arith, z .ps)))
-
--- ---- an effect written in place, register by register
-
-module _ (s : State) (e : Effect) where
-  pub flags-in : (f : Flags) → e .flags < 16 → f ≡ flagsOf (e .flags)
-      → record { vl = s .vl; level = s .level; access = s .access; flags = f; x = s .x; p = s .p } ≡ setFlags s (e .flags)
-  unfolding withFlags
-  flags-in f h q = flags-some s _ (e .flags) h (ap (withFlags s) q)
-
-  pub x-in : record { vl = s .vl; level = s .level; access = s .access; flags = s .flags; x = set (s .x) (e .x) (e .value); p = s .p } ≡ withX s (e .x) (e .value)
-  unfolding withX
-  x-in = refl
-
-  pub p-in : (r : ℕ) (q : Predicate) → record { vl = s .vl; level = s .level; access = s .access; flags = s .flags; x = s .x; p = set (s .p) r q } ≡ withP s r q
-  unfolding withP
-  p-in r q = refl
-
-pub sized-flags : (s : State) (f : ℕ) → Sized s → Sized (setFlags s f)
-unfolding setFlags withFlags
-sized-flags s f z = go (ltb f 16)
+words-steps : (ws : List ℕ) (done : ℕ) (s : State) → Kept s → afterWords done s ws ≡ stepsOf done s ws
+unfolding afterWords stepsOf
+words-steps [] done s k = refl
+words-steps (w ∷ ws) done s k =
+    ap (λ (r : Ran). pick (isDone (t .reply)) r (record { reply = Done; refused = t .reply; done = done; state = t .state })) (words-steps ws (suc done) (t .state) (after-kept s (decodeOf w) k))
+    ∙ ap (λ (u : Stepped). pick (isDone (u .reply)) (stepsOf (suc done) (u .state) ws) (record { reply = Done; refused = u .reply; done = done; state = u .state })) (sym (step-legal s w (k .legal-is)))
   where
-    go : (b : Bool) → Sized (pick b (withFlags s (flagsOf f)) s)
-    go true = record { xs = z .xs; ps = z .ps }
-    go false = z
+    t : Stepped
+    t = afterWord s (decodeOf w)
 
-pub sized-x : (s : State) (r v : ℕ) → Sized s → Sized (withX s r v)
-unfolding withX
-sized-x s r v z = record { xs = length-set (s .x) r v ∙ z .xs; ps = z .ps }
-
-pub sized-p : (s : State) (r : ℕ) (q : Predicate) → Sized s → Sized (withP s r q)
-unfolding withP
-sized-p s r q z = record { xs = z .xs; ps = length-set (s .p) r q ∙ z .ps }
+pub run-steps : (s : State) (ws : List ℕ) → legal s ≡ true → Sized s → runOf s ws ≡ stepsOf 0 s ws
+unfolding runOf
+run-steps s ws h z = pick-yes _ _ _ h ∙ words-steps ws 0 s (record { legal-is = h; sized = z })

@@ -1,2 +1,3 @@
-pub mod Effect
+pub mod Execute
 pub mod Step
+pub mod Given

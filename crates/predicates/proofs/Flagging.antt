@@ -2,9 +2,9 @@
 use mathlib.Core.Bool.{Bool, true, false, not, _&&_, and-false}
 use mathlib.Core.Path.{_≡_, refl, sym, ap, ap₂, _∙_}
 use Prim.Native.Nat.{ℕ, _+_, _-_, _*_, _<_}
-use native.Mathlib.Decide.{decLt}
+use native.Mathlib.Decide.{decLt, ℕ-discrete}
 use native.Mathlib.Omega.{arith}
-use lib.Dec.{eqb}
+use lib.Dec.{ltb, eqb}
 use borrow.Author.Tests.{lt-ltb, le-ltb, eq-eqb, ne-eqb}
 use Rattle.bits.specs.Bits.{testBit}
 use Rattle.bits.specs.Choice.{digit}
@@ -55,26 +55,36 @@ pub number-of : (n z c : Bool) (a b d : ℕ) → a ≡ digit n → b ≡ digit z
 unfolding nzcv
 number-of n z c a b d ha hb hd = rw (ha, hb, hd) (omega arith)
 
--- the end of a search compared with b + 1
-pub end-none : (e b : ℕ) → e ≡ 0 → true ≡ not (eqb e (b + 1))
-end-none e b h = sym (ap not (ne-eqb e (b + 1) (λ q. omega arith)))
+-- PredTest looks at the result's elements below n alone
+module _ (m r q : ℕ → Bool) (n : ℕ) (same : (e : ℕ) → e < n → r e ≡ q e) where
+  low-same : atLowest m r n ≡ atLowest m q n
+  unfolding atLowest
+  low-same = elim (decLt (firstFrom m 0 n) n) [
+    | yes l ↦ ap (λ (x : Bool). ltb (firstFrom m 0 n) n && x) (same (firstFrom m 0 n) l)
+    | no l ↦ let out = le-ltb (firstFrom m 0 n) n (omega arith) in ap (λ (x : Bool). x && r (firstFrom m 0 n)) out ∙ sym (ap (λ (x : Bool). x && q (firstFrom m 0 n)) out)
+  ]
 
-pub end-some : (e b : ℕ) → (e ≡ 0 → ⊥) → eqb (e - 1) b ≡ eqb e (b + 1)
+  high-same : atHighest m r n ≡ atHighest m q n
+  unfolding atHighest
+  high-same = elim (decLt 0 (afterLast m n)) [
+    | yes l ↦ ap (λ (x : Bool). ltb 0 (afterLast m n) && x) (same (afterLast m n - 1) (omega (arith, last-le m n)))
+    | no l ↦ let out = le-ltb 0 (afterLast m n) (omega arith) in ap (λ (x : Bool). x && r (afterLast m n - 1)) out ∙ sym (ap (λ (x : Bool). x && q (afterLast m n - 1)) out)
+  ]
+
+  pub test-cong : predTest m r n ≡ predTest m q n
+  unfolding predTest
+  test-cong = flags-are low-same (ap not (some-cong _ _ n (λ e l. ap (λ (x : Bool). m e && x) (same e l)))) (ap not high-same)
+
+-- the end of a search compared with b + 1
+end-some : (e b : ℕ) → (e ≡ 0 → ⊥) → eqb (e - 1) b ≡ eqb e (b + 1)
 end-some e b h =
-    elim (decLt b (e - 1)) [
-      | yes l ↦ ne-eqb (e - 1) b (λ q. omega arith) ∙ sym (ne-eqb e (b + 1) (λ q. omega arith))
-      | no l ↦
-          elim (decLt (e - 1) b) [
-            | yes m ↦ ne-eqb (e - 1) b (λ q. omega arith) ∙ sym (ne-eqb e (b + 1) (λ q. omega arith))
-            | no m ↦ eq-eqb (e - 1) b (omega arith) ∙ sym (eq-eqb e (b + 1) (omega arith))
-          ]
+    elim (ℕ-discrete (e - 1) b) [
+      | yes q ↦ eq-eqb (e - 1) b q ∙ sym (eq-eqb e (b + 1) (omega arith))
+      | no q ↦ ne-eqb (e - 1) b q ∙ sym (ne-eqb e (b + 1) (λ z. q (omega arith)))
     ]
 
--- PredTest of a mask that has bit b and a result that has no other
-module _ (m : ℕ → Bool) (r : Predicate) (b : ℕ) (below : b < 256) (has : m b ≡ true) (only : r ≡ pack (λ i. eqb i b)) where
-  hit : (i : ℕ) → i < 256 → bitAt r i ≡ eqb i b
-  hit i h = ap (λ (q : Predicate). bitAt q i) only ∙ pack-bit _ i h
-
+-- PredTest of a mask that has bit b and a result that has only this one
+module _ (m : ℕ → Bool) (b : ℕ) (below : b < 256) (has : m b ≡ true) where
   low : firstFrom m 0 256 < 256
   low = elim (decLt (firstFrom m 0 256) 256) [
     | yes l ↦ l
@@ -84,12 +94,41 @@ module _ (m : ℕ → Bool) (r : Predicate) (b : ℕ) (below : b < 256) (has : m
   high : afterLast m 256 ≡ 0 → ⊥
   high z = never has (last-found m 256 .none b (omega arith) below)
 
-  pub only-tests : record { n = eqb (firstFrom m 0 256) b; z = false; c = not (eqb (afterLast m 256) (b + 1)); v = false } ≡ predTest m (bitAt r) 256
+  pub only-tests : record { n = eqb (firstFrom m 0 256) b; z = false; c = not (eqb (afterLast m 256) (b + 1)); v = false } ≡ predTest m (λ i. eqb i b) 256
   unfolding predTest atLowest atHighest
   only-tests = flags-are
-      (sym (ap₂ _&&_ (lt-ltb (firstFrom m 0 256) 256 low) (hit (firstFrom m 0 256) low)))
-      (sym (ap not (some-yes _ 256 b below (ap₂ _&&_ has (hit b below ∙ eq-eqb b b refl)))))
-      (ap not (sym (ap₂ _&&_ (lt-ltb 0 (afterLast m 256) (omega (arith, high))) (hit (afterLast m 256 - 1) (omega (arith, high, last-le m 256)) ∙ end-some (afterLast m 256) b high))))
+      (sym (ap (λ (x : Bool). x && eqb (firstFrom m 0 256) b) (lt-ltb (firstFrom m 0 256) 256 low)))
+      (sym (ap not (some-yes _ 256 b below (ap₂ _&&_ has (eq-eqb b b refl)))))
+      (ap not (sym (ap₂ _&&_ (lt-ltb 0 (afterLast m 256) (omega (arith, high))) (end-some (afterLast m 256) b high))))
+
+-- of one that lacks it
+module _ (m : ℕ → Bool) (b n : ℕ) (lacks : m b ≡ false) where
+  other : (e : ℕ) → m e ≡ true → eqb e b ≡ false
+  other e h = ne-eqb e b (λ q. never h (ap m q ∙ lacks))
+
+  low-other : atLowest m (λ i. eqb i b) n ≡ false
+  unfolding atLowest
+  low-other = elim (decLt (firstFrom m 0 n) n) [
+    | yes l ↦ ap₂ _&&_ (lt-ltb (firstFrom m 0 n) n l) (other (firstFrom m 0 n) (first-found m 0 n (omega arith) .hit l))
+    | no l ↦ ap (λ (x : Bool). x && eqb (firstFrom m 0 n) b) (le-ltb (firstFrom m 0 n) n (omega arith))
+  ]
+
+  high-other : atHighest m (λ i. eqb i b) n ≡ false
+  unfolding atHighest
+  high-other = elim (decLt 0 (afterLast m n)) [
+    | yes l ↦ ap₂ _&&_ (lt-ltb 0 (afterLast m n) l) (other (afterLast m n - 1) (last-found m n .hit (afterLast m n - 1) (omega arith)))
+    | no l ↦ ap (λ (x : Bool). x && eqb (afterLast m n - 1) b) (le-ltb 0 (afterLast m n) (omega arith))
+  ]
+
+  at-other : (e : ℕ) → (m e && eqb e b) ≡ false
+  at-other e = elim (ℕ-discrete e b) [
+    | yes q ↦ ap (λ (x : Bool). x && eqb e b) (ap m q ∙ lacks)
+    | no q ↦ ap (λ (x : Bool). m e && x) (ne-eqb e b q) ∙ and-false (m e)
+  ]
+
+  pub other-tests : record { n = false; z = true; c = true; v = false } ≡ predTest m (λ i. eqb i b) n
+  unfolding predTest
+  other-tests = flags-are (sym low-other) (sym (ap not (some-no _ n (λ e l. at-other e)))) (sym (ap not high-other))
 
 -- PredTest of a result with no element true
 module _ (m r : ℕ → Bool) (n : ℕ) (none : (e : ℕ) → e < n → r e ≡ false) where

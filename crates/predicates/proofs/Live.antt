@@ -15,13 +15,13 @@ use Rattle.bits.specs.Bits.{elementBit}
 use Rattle.bits.specs.Choice.{digit}
 use Rattle.bits.specs.Search.{count, some, firstFrom, afterLast}
 use Rattle.bits.specs.Size.{shift}
-use Rattle.bits.proofs.Searches.{never, count-cong, count-low, count-add, count-end, count-none, some-yes, some-no, some-none, some-found, first-found, first-is, first-cong, last-found, last-is, last-cong}
+use Rattle.bits.proofs.Searches.{never, count-cong, count-low, count-add, count-end, count-none, some-yes, some-no, some-none, some-found, first-found, first-is, first-cong, last-found, last-is, last-cong, last-le}
 use Rattle.predicates.specs.declared.Predicate.{Predicate}
 use Rattle.predicates.specs.PredTest.{atLowest, atHighest, predTest}
-use Rattle.predicates.specs.Predicate.{bitAt, pack, active, spread, between, spanOf, predicateLength, elements, liveOf}
+use Rattle.predicates.specs.Predicate.{bitAt, pack, active, touched, spread, between, spanOf, predicateLength, elements, liveOf}
 use Rattle.predicates.proofs.ElementBits.{element-start, start-of, spread-at, span-bit, between-from-zero, in-bits}
 use Rattle.predicates.proofs.Flagging.{flags-are}
-use Rattle.predicates.proofs.Words.{pack-bit, pack-cong}
+use Rattle.predicates.proofs.Words.{Words, bit-past, pack-bit, pack-cong, pack-words}
 
 -- E elements fit a predicate
 pub elements-fit : (vl : ℕ) (size : Size) → elements vl size * 2 ^ shift size ≤ 256
@@ -264,6 +264,54 @@ module _ (k n : ℕ) (fits : n * 2 ^ k ≤ 256) (m r : Predicate) where
   unfolding predTest
   test-same = flags-are lowest-same (ap not some-same) (ap not highest-same)
 
+-- ---- the last element that has a bit set, from the last bit
+
+module _ (k : ℕ) (p : Predicate) (words : Words p) where
+  end : ℕ
+  end = afterLast (bitAt p) 256
+
+  up : ℕ
+  up = (end + (2 ^ k - 1)) / 2 ^ k
+
+  -- rounded up
+  up-le : up * 2 ^ k ≤ end + (2 ^ k - 1)
+  unfolding up
+  up-le = div-mul-le-self (end + (2 ^ k - 1)) (2 ^ k)
+
+  end-le : end ≤ up * 2 ^ k
+  unfolding up
+  end-le = omega (arith, pow-pos k, suc-mul up (2 ^ k), div-lt-iff-lt-mul {k = 2 ^ k} {x = end + (2 ^ k - 1)} {y = suc up} (pow-pos k) .0 (omega arith))
+
+  past-end : (e i : ℕ) → up ≤ e → bitAt p (e * 2 ^ k + i) ≡ false
+  unfolding end
+  past-end e i h =
+      let far : up * 2 ^ k ≤ e * 2 ^ k = mul-le-mul-right (2 ^ k) h in
+      elim (decLt (e * 2 ^ k + i) 256) [
+        | yes l ↦ last-found (bitAt p) 256 .none (e * 2 ^ k + i) (omega (arith, end-le)) l
+        | no l ↦ bit-past p words (e * 2 ^ k + i) (omega arith)
+      ]
+
+  pub last-touched : (afterLast (bitAt p) 256 + (2 ^ k - 1)) / 2 ^ k ≡ afterLast (touched k p) 256
+  unfolding touched up end
+  last-touched = last-is (touched k p) 256 up (record {
+    upto = most;
+    none = λ e h l. some-no _ (2 ^ k) (λ i m. past-end e i h);
+    hit = λ e s. has e s;
+  })
+    where
+      most : up ≤ 256
+      most = elim (decLt 256 up) [
+        | yes l ↦ absurd (let far : 257 * 2 ^ k ≤ up * 2 ^ k = mul-le-mul-right (2 ^ k) l in omega (arith, up-le, pow-pos k, last-le (bitAt p) 256))
+        | no l ↦ omega arith
+      ]
+
+      has : (e : ℕ) → up ≡ suc e → touched k p e ≡ true
+      has e s =
+          let whole : up * 2 ^ k ≡ e * 2 ^ k + 2 ^ k = ap (λ (x : ℕ). x * 2 ^ k) s ∙ suc-mul e (2 ^ k) in
+          let back : e * 2 ^ k + (end - 1 - e * 2 ^ k) ≡ end - 1 = omega (arith, up-le, pow-pos k) in
+          some-yes _ (2 ^ k) (end - 1 - e * 2 ^ k) (omega (arith, end-le, up-le, pow-pos k))
+          (ap (bitAt p) back ∙ last-found (bitAt p) 256 .hit (end - 1) (omega (arith, up-le, pow-pos k)))
+
 -- ---- a predicate under the live elements of a vector
 
 module _ (vl : ℕ) (size : Size) (p m : Predicate) (under : m ≡ pack (λ b. bitAt p b && bitAt (liveOf vl size) b)) where
@@ -279,9 +327,10 @@ module _ (vl : ℕ) (size : Size) (p m : Predicate) (under : m ≡ pack (λ b. b
       ∙ count-bits (shift size) (elements vl size) (elements-fit vl size) live (upto-past (elements vl size) (active (shift size) p))
       ∙ count-cong _ _ (elements vl size) (λ e l. upto-at (elements vl size) (active (shift size) p) e l)
 
-  pub last-live : (afterLast (bitAt m) 256 + (2 ^ shift size - 1)) / 2 ^ shift size ≡ afterLast (active (shift size) p) (elements vl size)
+  pub last-live : afterLast (touched (shift size) m) 256 ≡ afterLast (active (shift size) p) (elements vl size)
   last-live =
-      ap (λ (x : Predicate). (afterLast (bitAt x) 256 + (2 ^ shift size - 1)) / 2 ^ shift size) live-is
+      sym (last-touched (shift size) m (rw under (pack-words _)))
+      ∙ ap (λ (x : Predicate). (afterLast (bitAt x) 256 + (2 ^ shift size - 1)) / 2 ^ shift size) live-is
       ∙ last-element (shift size) (elements vl size) (elements-fit vl size) live (upto-past (elements vl size) (active (shift size) p))
       ∙ last-cong _ _ (elements vl size) (λ e l. upto-at (elements vl size) (active (shift size) p) e l)
 

@@ -1,14 +1,16 @@
 -- A predicate's words and its bits. Assumes nothing.
-use mathlib.Core.Bool.{Bool, false}
+use mathlib.Core.Bool.{Bool, true, false}
 use mathlib.Core.List.{List, [], _∷_}
 use mathlib.Core.Path.{_≡_, refl, sym, ap, ap₂, _∙_}
 use Prim.Native.Nat.{ℕ, zero, suc, _+_, _*_, _/_, _%_, _^_, _≤_, _<_}
+use native.Mathlib.Decide.{decLt}
 use native.Mathlib.Omega.{arith}
 use lib.Arith.{digits-div, digits-mod}
 use lib.ListN.{getD, length, List·getD-eq-default}
 use mir.Syntax.{w64}
 use mir.Val.{Fits}
 use Rattle.bits.specs.Bits.{testBit, number}
+use Rattle.bits.proofs.Searches.{never}
 use Rattle.bits.proofs.Bits.{testBit-number, testBit-zero, number-cong, number-lt, number-whole}
 use Rattle.predicates.specs.declared.Predicate.{Predicate}
 use Rattle.predicates.specs.Predicate.{bitAt, pack}
@@ -46,6 +48,12 @@ pack-word f (suc zero) i h l = testBit-number f 64 64 i l
 pack-word f (suc (suc zero)) i h l = testBit-number f 128 64 i l
 pack-word f (suc (suc (suc zero))) i h l = testBit-number f 192 64 i l
 pack-word f (suc (suc (suc (suc q)))) i h l = absurd (omega arith)
+
+pub bit-below : (p : Predicate) → Words p → (b : ℕ) → bitAt p b ≡ true → b < 256
+bit-below p w b h = elim (decLt b 256) [
+  | yes l ↦ l
+  | no l ↦ never h (bit-past p w b (omega arith))
+]
 
 -- a packed predicate's bits are the bits that were packed
 pub pack-bit : (f : ℕ → Bool) (b : ℕ) → b < 256 → bitAt (pack f) b ≡ f b

@@ -1,5 +1,5 @@
 -- A predicate's bits and elements. An element of 2 ^ k bits belongs to the size whose `shift` is k.
-use Prim.Native.Nat.{ℕ, _*_, _/_, _%_, _^_, min}
+use Prim.Native.Nat.{ℕ, _+_, _*_, _/_, _%_, _^_, min}
 use mathlib.Core.Bool.{Bool, false, _&&_}
 use mathlib.Core.List.{[], _∷_}
 use lib.Dec.{ltb, leb}
@@ -25,6 +25,10 @@ allFalse = pack (λ b. false)
 -- element e is active exactly if its lowest bit is 1
 unfoldable pub active : ℕ → Predicate → ℕ → Bool
 active k p e = bitAt p (e * 2 ^ k)
+
+-- element e has a bit set
+unfoldable pub touched : ℕ → Predicate → ℕ → Bool
+touched k p e = some (λ i. bitAt p (e * 2 ^ k + i)) (2 ^ k)
 
 -- elements as bits: the lowest bit of an element says whether it is active, its other bits are 0
 unfoldable pub spread : ℕ → (ℕ → Bool) → ℕ → Bool

@@ -7,7 +7,7 @@ ghost use Rattle.bits.specs.Bits.{testBit, number};
 ghost use Rattle.bits.specs.Choice.{digit};
 ghost use Rattle.bits.specs.Search.{count as countBits, some, firstFrom, afterLast};
 ghost use Rattle.bits.specs.Size.{shift};
-ghost use Rattle.predicates.specs.Predicate.{bitAt, pack, allFalse, active, spread, spanOf, predicateLength, elements as elementsOf, liveOf, hasBitFrom};
+ghost use Rattle.predicates.specs.Predicate.{bitAt, pack, allFalse, active, touched, spread, spanOf, predicateLength, elements as elementsOf, liveOf, hasBitFrom};
 ghost use Rattle.predicates.specs.PredTest.{atLowest, atHighest, predTest, nzcv as nzcvOf, flagsOf};
 use bits::Size;
 
@@ -233,16 +233,9 @@ impl Predicate {
         self.and(Predicate::live(vl, size)).count()
     }
 
-    // One more than the highest active element of a vector, or 0.
-    pub fn after_last(self, vl: u64, size: Size) -> u64
-        ensures { λ r. ⌜ r ≡ afterLast (active (shift size) self) (elementsOf vl size) ⌝ }
-    {
-        self.and(Predicate::live(vl, size)).end_element(size)
-    }
-
     // One more than the highest element that has a bit set, or 0.
     pub fn end_element(self, size: Size) -> u64
-        ensures { λ r. ⌜ r ≡ (afterLast (bitAt self) 256 + (2 ^ shift size - 1)) / 2 ^ shift size ⌝ }
+        ensures { λ r. ⌜ r ≡ afterLast (touched (shift size) self) 256 ⌝ }
     {
         let end = self.after_highest();
         let k = size.shift();
@@ -373,16 +366,14 @@ pub fn test_bits(mask: Predicate, result: Predicate) -> u64
     nzcv(n, z, !c)
 }
 
-// PredTest over the 256 bits of a mask that has bit `b` and a result that has no other, as the number NZCV.
+// PredTest over the 256 bits, of a result that has only bit `b`, as the number NZCV.
 pub fn test_only(mask: Predicate, b: u64) -> u64
-    ensures { λ r. ⌜ r ≡ nzcvOf (record { n = eqb (firstFrom (bitAt mask) 0 256) b; z = false; c = not (eqb (afterLast (bitAt mask) 256) (b + 1)); v = false }) ⌝ }
+    ensures { λ r. ⌜ r ≡ nzcvOf (predTest (bitAt mask) (λ i. eqb i b) 256) ⌝ }
 {
-    let n = mask.lowest() == b;
-    let end = mask.after_highest();
-    if end == 0 {
-        return nzcv(n, false, true);
+    if !mask.bit(b) {
+        return nzcv(false, true, true);
     }
-    nzcv(n, false, end - 1 != b)
+    nzcv(mask.lowest() == b, false, mask.after_highest() != b + 1)
 }
 
 // PredTest over a vector's elements, as the number NZCV.

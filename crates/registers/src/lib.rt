@@ -5,6 +5,9 @@ ghost use Rattle.predicates.specs.Predicate.{bitAt, pack};
 ghost use lib.ListN.{getD};
 ghost use Rattle.registers.specs.State.{allFalse, readX, readP, withX, withP, withFlags};
 ghost use Rattle.registers.specs.Legal.{isLength, legal};
+
+pub mod parts;
+
 use predicates::Flags;
 use predicates::Predicate;
 

@@ -1,8 +1,7 @@
--- `compute` meets its contract: each form's own function. Assumes nothing.
-use mathlib.Core.Path.{sym, ap, _∙_}
+-- `compute` meets its contract. Assumes nothing.
 use borrow.Author.Needs.{needs}
-use Rattle.words.specs.declared.Instruction.{Instruction}
 use Rattle.instructions.specs.Instructions.{computeOf}
+use Rattle.instructions.proofs.Effects.{by-form}
 use Rattle.instructions.proofs.compute.Statement.{statement}
 use Rattle.instructions.proofs.compute.Tie as tie
 
@@ -42,59 +41,59 @@ enum-known-i-6 c = search needs
 pnext-requires : tie.Need-pnext-requires
 pnext-requires c κs = search needs
 
-enum-known-i-7 : tie.Need-enum-known-i-7
-enum-known-i-7 c = search needs
+enum-told : tie.Need-enum-told
+enum-told c = search needs
 
 pfirst-requires : tie.Need-pfirst-requires
 pfirst-requires c κs = search needs
 
-enum-told : tie.Need-enum-told
-enum-told c = search needs
+enum-told-2 : tie.Need-enum-told-2
+enum-told-2 c = search needs
 
 ptest-requires : tie.Need-ptest-requires
 ptest-requires c κs = search needs
 
-enum-known-i-8 : tie.Need-enum-known-i-8
-enum-known-i-8 c = search needs
+enum-told-3 : tie.Need-enum-told-3
+enum-told-3 c = search needs
 
 pfalse-requires : tie.Need-pfalse-requires
 pfalse-requires c κs = search needs
 
 returns : tie.Need-returns
 unfolding computeOf
-returns c = let s = c .before .before .before .before .args in c .while-target .ensures ∙ sym (ap (λ (j : Instruction). computeOf j (s .a) (s .b) (s .g) (s .q) (s .vl)) (c .before .before .i .given .1))
+returns c = search (by-form, needs) depth 9
 
 returns-2 : tie.Need-returns-2
 unfolding computeOf
-returns-2 c = let s = c .before .before .before .before .args in c .saturating .ensures ∙ sym (ap (λ (j : Instruction). computeOf j (s .a) (s .b) (s .g) (s .q) (s .vl)) (c .before .before .i2 .given .1))
+returns-2 c = search (by-form, needs) depth 9
 
 returns-3 : tie.Need-returns-3
 unfolding computeOf
-returns-3 c = let s = c .before .before .before .before .args in c .inc-dec .ensures ∙ sym (ap (λ (j : Instruction). computeOf j (s .a) (s .b) (s .g) (s .q) (s .vl)) (c .before .before .i3 .given .1))
+returns-3 c = search (by-form, needs) depth 9
 
 returns-4 : tie.Need-returns-4
 unfolding computeOf
-returns-4 c = let s = c .before .before .before .before .args in c .cntp .ensures ∙ sym (ap (λ (j : Instruction). computeOf j (s .a) (s .b) (s .g) (s .q) (s .vl)) (c .before .before .i4 .given .1))
+returns-4 c = search (by-form, needs) depth 9
 
 returns-5 : tie.Need-returns-5
 unfolding computeOf
-returns-5 c = let s = c .before .before .before .before .args in c .cntp-counter .ensures ∙ sym (ap (λ (j : Instruction). computeOf j (s .a) (s .b) (s .g) (s .q) (s .vl)) (c .before .before .i5 .given .1))
+returns-5 c = search (by-form, needs) depth 9
 
 returns-6 : tie.Need-returns-6
 unfolding computeOf
-returns-6 c = let s = c .before .before .before .before .args in c .pnext .ensures ∙ sym (ap (λ (j : Instruction). computeOf j (s .a) (s .b) (s .g) (s .q) (s .vl)) (c .before .before .i6 .given .1))
+returns-6 c = search (by-form, needs) depth 9
 
 returns-7 : tie.Need-returns-7
 unfolding computeOf
-returns-7 c = let s = c .before .before .before .before .args in c .pfirst .ensures ∙ sym (ap (λ (j : Instruction). computeOf j (s .a) (s .b) (s .g) (s .q) (s .vl)) (c .before .before .i7 .given .1))
+returns-7 c = search (by-form, needs) depth 9
 
 returns-8 : tie.Need-returns-8
 unfolding computeOf
-returns-8 c = let s = c .before .before .before .args in c .ptest .ensures ∙ sym (ap (λ (j : Instruction). computeOf j (s .a) (s .b) (s .g) (s .q) (s .vl)) (c .before .enum-told .given .1))
+returns-8 c = search (by-form, needs) depth 9
 
 returns-9 : tie.Need-returns-9
 unfolding computeOf
-returns-9 c = let s = c .before .before .before .before .args in c .pfalse .ensures ∙ sym (ap (λ (j : Instruction). computeOf j (s .a) (s .b) (s .g) (s .q) (s .vl)) (c .before .before .i8 .given .1))
+returns-9 c = search (by-form, needs) depth 9
 
 pub compute-spec : {M : Type 1} → statement M
 compute-spec =
@@ -112,11 +111,11 @@ compute-spec =
     cntp-counter-requires
     enum-known-i-6
     pnext-requires
-    enum-known-i-7
-    pfirst-requires
     enum-told
+    pfirst-requires
+    enum-told-2
     ptest-requires
-    enum-known-i-8
+    enum-told-3
     pfalse-requires
     returns
     returns-2

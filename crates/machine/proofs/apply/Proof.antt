@@ -1,6 +1,6 @@
 -- `apply` meets its contract. Assumes nothing.
 use borrow.Author.Needs.{needs}
-use Rattle.machine.proofs.Frame.{apply-parts}
+use Rattle.machine.proofs.Executing.{applied}
 use Rattle.machine.proofs.apply.Statement.{statement}
 use Rattle.machine.proofs.apply.Tie as tie
 
@@ -17,7 +17,7 @@ with-p-requires-2 : tie.Need-with-p-requires-2
 with-p-requires-2 c κs = search needs
 
 returns : tie.Need-returns
-returns c = apply-parts _ _ _ _ _ _ (c .before .before .before .set-flags .ensures) (c .before .before .with-x .ensures) (c .before .with-p .ensures) (c .with-p2 .ensures)
+returns c = search (applied, needs) depth 9
 
 pub apply-spec : {M : Type 1} → statement M
 apply-spec =

@@ -8,6 +8,8 @@ use Rattle.bits.specs.Size.{shift}
 use Rattle.bits.proofs.Searches.{last-le}
 use Rattle.bits.proofs.Sizes.{shift-lt, one-shifted, power-le}
 use Rattle.predicates.specs.Predicate.{bitAt}
+use Rattle.predicates.proofs.Live.{last-touched}
+use Rattle.predicates.proofs.Words.{words-of}
 use Rattle.predicates.proofs.Predicate.end_element.Statement.{statement}
 use Rattle.predicates.proofs.Predicate.end_element.Tie as tie
 
@@ -41,6 +43,7 @@ returns c =
     let size = c .before .before .args .size in
     ap₂ (λ (x k : ℕ). (c .before .after-highest .result + (x - 1)) / 2 ^ k) (width c) (c .shift .ensures)
     ∙ ap (λ (x : ℕ). (x + (2 ^ shift size - 1)) / 2 ^ shift size) (c .before .after-highest .ensures)
+    ∙ last-touched (shift size) (c .before .before .args .self) (search (needs, words-of))
 
 pub end-element-spec : {M : Type 1} → statement M
 end-element-spec =

@@ -1,0 +1,126 @@
+-- `registers_of` meets its contract. Assumes nothing.
+use borrow.Author.Needs.{needs}
+use Rattle.instructions.proofs.Effects.{names, names-targets}
+use Rattle.instructions.proofs.operands.registers_of.Statement.{statement}
+use Rattle.instructions.proofs.operands.registers_of.Tie as tie
+
+enum-known-i : tie.Need-enum-known-i
+enum-known-i c = search needs
+
+target-requires : tie.Need-target-requires
+target-requires c κs = search needs
+
+second-target-requires : tie.Need-second-target-requires
+second-target-requires c κs = search needs
+
+comparing-requires : tie.Need-comparing-requires
+comparing-requires c κs = search needs
+
+enum-known-i-2 : tie.Need-enum-known-i-2
+enum-known-i-2 c = search needs
+
+counting-requires : tie.Need-counting-requires
+counting-requires c κs = search needs
+
+enum-known-i-3 : tie.Need-enum-known-i-3
+enum-known-i-3 c = search needs
+
+counting-requires-2 : tie.Need-counting-requires-2
+counting-requires-2 c κs = search needs
+
+enum-known-i-4 : tie.Need-enum-known-i-4
+enum-known-i-4 c = search needs
+
+counting-requires-3 : tie.Need-counting-requires-3
+counting-requires-3 c κs = search needs
+
+enum-known-i-5 : tie.Need-enum-known-i-5
+enum-known-i-5 c = search needs
+
+counting-requires-4 : tie.Need-counting-requires-4
+counting-requires-4 c κs = search needs
+
+enum-known-i-6 : tie.Need-enum-known-i-6
+enum-known-i-6 c = search needs
+
+masking-requires : tie.Need-masking-requires
+masking-requires c κs = search needs
+
+enum-known-i-7 : tie.Need-enum-known-i-7
+enum-known-i-7 c = search needs
+
+masking-requires-2 : tie.Need-masking-requires-2
+masking-requires-2 c κs = search needs
+
+enum-known-i-8 : tie.Need-enum-known-i-8
+enum-known-i-8 c = search needs
+
+masking-requires-3 : tie.Need-masking-requires-3
+masking-requires-3 c κs = search needs
+
+enum-known-i-9 : tie.Need-enum-known-i-9
+enum-known-i-9 c = search needs
+
+masking-requires-4 : tie.Need-masking-requires-4
+masking-requires-4 c κs = search needs
+
+returns : tie.Need-returns
+returns c = search (names-targets, needs) depth 9
+
+returns-2 : tie.Need-returns-2
+returns-2 c = search (names, needs) depth 9
+
+returns-3 : tie.Need-returns-3
+returns-3 c = search (names, needs) depth 9
+
+returns-4 : tie.Need-returns-4
+returns-4 c = search (names, needs) depth 9
+
+returns-5 : tie.Need-returns-5
+returns-5 c = search (names, needs) depth 9
+
+returns-6 : tie.Need-returns-6
+returns-6 c = search (names, needs) depth 9
+
+returns-7 : tie.Need-returns-7
+returns-7 c = search (names, needs) depth 9
+
+returns-8 : tie.Need-returns-8
+returns-8 c = search (names, needs) depth 9
+
+returns-9 : tie.Need-returns-9
+returns-9 c = search (names, needs) depth 9
+
+pub registers-of-spec : {M : Type 1} → statement M
+registers-of-spec =
+    tie.close
+    (tie.spec
+    enum-known-i
+    target-requires
+    second-target-requires
+    comparing-requires
+    enum-known-i-2
+    counting-requires
+    enum-known-i-3
+    counting-requires-2
+    enum-known-i-4
+    counting-requires-3
+    enum-known-i-5
+    counting-requires-4
+    enum-known-i-6
+    masking-requires
+    enum-known-i-7
+    masking-requires-2
+    enum-known-i-8
+    masking-requires-3
+    enum-known-i-9
+    masking-requires-4
+    returns
+    returns-2
+    returns-3
+    returns-4
+    returns-5
+    returns-6
+    returns-7
+    returns-8
+    returns-9)

@@ -1,0 +1,27 @@
+-- Counts of true elements: CNTP, INCP, DECP and their saturating forms.
+use Prim.Native.Nat.{ℕ, _+_, _-_, _%_, _^_}
+use mathlib.Core.Bool.{Bool, _&&_}
+use Rattle.bits.specs.declared.Size.{Size}
+use Rattle.bits.specs.Choice.{pick}
+use Rattle.bits.specs.Search.{count}
+use Rattle.bits.specs.Size.{shift}
+use Rattle.predicates.specs.declared.Predicate.{Predicate}
+use Rattle.predicates.specs.Predicate.{active, elements}
+use Rattle.scalars.specs.Value.{widthOf}
+use Rattle.scalars.specs.Saturate.{saturating}
+use Rattle.instructions.specs.Effect.{Effect, givesX}
+
+-- Pm's count, added or subtracted modulo 2 ^ 64
+unfoldable pub incDecOf : Bool → Size → ℕ → Predicate → ℕ → Effect
+incDecOf decrement size rdn pm vl =
+    let n = count (active (shift size) pm) (elements vl size) in
+    givesX (pick decrement ((rdn + (2 ^ 64 - n)) % 2 ^ 64) ((rdn + n) % 2 ^ 64))
+
+-- the same, on the whole register or its low word, stopped at the ends of the range
+unfoldable pub saturatingOf : Bool → Bool → Bool → Size → ℕ → Predicate → ℕ → Effect
+saturatingOf decrement unsigned wide size rdn pm vl =
+    givesX (saturating (widthOf wide) unsigned decrement rdn (count (active (shift size) pm) (elements vl size)))
+
+-- the elements true in Pg and Pn
+unfoldable pub cntpOf : Size → Predicate → Predicate → ℕ → Effect
+cntpOf size pg pn vl = givesX (count (λ e. active (shift size) pg e && active (shift size) pn e) (elements vl size))

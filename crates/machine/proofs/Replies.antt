@@ -1,0 +1,127 @@
+-- Each reply of a step is given exactly when the table says, and what follows of the state. Assumes nothing.
+use mathlib.Core.Bool.{Bool, true, false, _&&_}
+use mathlib.Core.List.{List, [], _∷_}
+use mathlib.Core.Logic.{_↔_}
+use mathlib.Core.Path.{_≡_, refl, sym, ap, _∙_, subst}
+use Prim.Native.Nat.{ℕ, _≤_, _<_}
+use native.Mathlib.Decide.{decLt}
+use native.Mathlib.Omega.{arith}
+use borrow.Author.Tests.{lt-ltb, le-ltb}
+use Rattle.bits.specs.Choice.{pick}
+use Rattle.bits.proofs.Searches.{never}
+use Rattle.replies.specs.declared.Reply.{Reply}
+use Rattle.replies.specs.declared.Reply.the-variants.{Done, UnknownWord, LevelTooLow, AccessOff, IllegalState}
+use Rattle.replies.specs.Reply.{isDone}
+use Rattle.registers.specs.declared.State.{State}
+use Rattle.registers.specs.Legal.{legal}
+use Rattle.words.specs.declared.Decoded.{Decoded}
+use Rattle.words.specs.declared.Decoded.the-variants.{Ours, Refused}
+use Rattle.words.specs.declared.Instruction.{Instruction}
+use Rattle.words.specs.Words.{Form, forms, reads, readAs, firstOf, decodeOf, levelOf}
+use Rattle.instructions.specs.Operands.{registersOf}
+use Rattle.machine.specs.declared.Stepped.{Stepped}
+use Rattle.machine.specs.Execute.{executeOf}
+use Rattle.machine.specs.Given.{Given}
+use Rattle.machine.specs.Given.Given.{illegal, unknown, low, off, done}
+use Rattle.machine.specs.Step.{admissionOf, answered, afterWord, stepOf}
+use Rattle.machine.proofs.Frame.{Untouched, untouched}
+use Rattle.machine.proofs.Steps.{pick-yes, pick-no, step-legal}
+
+-- a word that is none of ours is answered 1
+refused-unknown : (fs : List Form) (w : ℕ) (r : Reply) → firstOf fs w ≡ Refused r → r ≡ UnknownWord
+unfolding firstOf
+refused-unknown [] w r h = cc
+refused-unknown (f ∷ fs) w r h = go (reads f w) refl (refused-unknown fs w r)
+  where
+    go : (b : Bool) → reads f w ≡ b → (firstOf fs w ≡ Refused r → r ≡ UnknownWord) → r ≡ UnknownWord
+    go true e rest = let z : _≡_ {A = ℕ} 0 1 = cc (pick-yes (reads f w) (Ours (readAs f w)) (firstOf fs w) e) in absurd (omega arith)
+    go false e rest = rest (sym (pick-no _ _ _ e) ∙ h)
+
+-- ---- the reply of a legal state's step, from what the word is
+
+module _ (s : State) (w : ℕ) (ok : legal s ≡ true) where
+  refused-is : (r : Reply) → decodeOf w ≡ Refused r → stepOf s w ≡ answered r s
+  unfolding afterWord
+  refused-is r h = step-legal s w ok ∙ ap (afterWord s) h
+
+  module _ (i : Instruction) (ours : decodeOf w ≡ Ours i) where
+    ours-is : stepOf s w ≡ afterWord s (Ours i)
+    ours-is = step-legal s w ok ∙ ap (afterWord s) ours
+
+    reply-is : (r : Reply) → admissionOf i (s .level) (s .access) ≡ r → stepOf s w ≡ answered r (pick (isDone r) (executeOf s i) s)
+    unfolding afterWord
+    reply-is r e = ours-is ∙ ap (λ (q : Reply). answered q (pick (isDone q) (executeOf s i) s)) e
+
+    too-low : s .level < levelOf i → admissionOf i (s .level) (s .access) ≡ LevelTooLow
+    too-low l = pick-yes _ _ _ (lt-ltb (s .level) (levelOf i) l)
+
+    by-access : (b : Bool) → s .access ≡ b → levelOf i ≤ s .level → admissionOf i (s .level) (s .access) ≡ pick b Done AccessOff
+    by-access b e l = pick-no _ _ _ (le-ltb (s .level) (levelOf i) l) ∙ ap (λ (t : Bool). pick t Done AccessOff) e
+
+illegal-is : (s : State) (w : ℕ) → legal s ≡ false → stepOf s w ≡ answered IllegalState s
+unfolding stepOf
+illegal-is s w h = pick-no _ _ _ h
+
+-- ---- exactly when
+
+-- a reply that the table gives is the step's
+pub given-reply : (s : State) (w : ℕ) (r : Reply) → Given s w r → stepOf s w .reply ≡ r
+given-reply s w IllegalState (illegal h) = ap (λ (t : Stepped). t .reply) (illegal-is s w h)
+given-reply s w UnknownWord (unknown ok h) = ap (λ (t : Stepped). t .reply) (refused-is s w ok UnknownWord h)
+given-reply s w LevelTooLow (low i ok h l) = ap (λ (t : Stepped). t .reply) (reply-is s w ok i h LevelTooLow (too-low s w ok i h l))
+given-reply s w AccessOff (off i ok h l a) = ap (λ (t : Stepped). t .reply) (reply-is s w ok i h AccessOff (by-access s w ok i h false a l))
+given-reply s w Done (done i ok h l a) = ap (λ (t : Stepped). t .reply) (reply-is s w ok i h Done (by-access s w ok i h true a l))
+
+-- and one of its rows applies
+row : (s : State) (w : ℕ) → (r : Reply) × Given s w r
+row s w = by-legality (legal s) refl
+  where
+    by-access′ : (i : Instruction) → legal s ≡ true → decodeOf w ≡ Ours i → levelOf i ≤ s .level → (b : Bool) → s .access ≡ b → (r : Reply) × Given s w r
+    by-access′ i ok h l true a = (Done, done i ok h l a)
+    by-access′ i ok h l false a = (AccessOff, off i ok h l a)
+
+    by-word : legal s ≡ true → (d : Decoded) → decodeOf w ≡ d → (r : Reply) × Given s w r
+    by-word ok (Refused r) h = (UnknownWord, unknown ok (h ∙ ap Refused (refused-unknown forms w r h)))
+    by-word ok (Ours i) h =
+        elim (decLt (s .level) (levelOf i)) [
+          | yes l ↦ (LevelTooLow, low i ok h l)
+          | no l ↦ by-access′ i ok h (omega arith) (s .access) refl
+        ]
+
+    by-legality : (b : Bool) → legal s ≡ b → (r : Reply) × Given s w r
+    by-legality true ok = by-word ok (decodeOf w) refl
+    by-legality false bad = (IllegalState, illegal bad)
+
+pub exactly-when : (s : State) (w : ℕ) (r : Reply) → (stepOf s w .reply ≡ r) ↔ Given s w r
+exactly-when s w r = (there, given-reply s w r)
+  where
+    there : stepOf s w .reply ≡ r → Given s w r
+    there e = let (q, g) = row s w in subst (Given s w) (sym (given-reply s w q g) ∙ e) g
+
+-- ---- what follows of the state
+
+-- an accepted word's step is the instruction that it is, executed
+pub accepted-step : (s : State) (w : ℕ) (i : Instruction) → decodeOf w ≡ Ours i → stepOf s w .reply ≡ Done → stepOf s w .state ≡ executeOf s i
+accepted-step s w i h e = go Done (exactly-when s w Done .0 e) refl
+  where
+    go : (r : Reply) → Given s w r → r ≡ Done → stepOf s w .state ≡ executeOf s i
+    go IllegalState (illegal b) z = let n : _≡_ {A = ℕ} 0 1 = cc in absurd (omega arith)
+    go UnknownWord (unknown ok b) z = let n : _≡_ {A = ℕ} 0 1 = cc in absurd (omega arith)
+    go LevelTooLow (low j ok b l) z = let n : _≡_ {A = ℕ} 0 1 = cc in absurd (omega arith)
+    go AccessOff (off j ok b l a) z = let n : _≡_ {A = ℕ} 0 1 = cc in absurd (omega arith)
+    go Done (done j ok b l a) z = ap (λ (t : Stepped). t .state) (reply-is s w ok i h Done (by-access s w ok i h true a (let same : levelOf j ≡ levelOf i = ap levelOf (let k : j ≡ i = cc in k) in omega arith)))
+
+-- a reply other than 0 leaves the state as it was
+pub refused-step : (s : State) (w : ℕ) → (stepOf s w .reply ≡ Done → ⊥) → stepOf s w .state ≡ s
+refused-step s w h = let (r, g) = row s w in go r g
+  where
+    go : (r : Reply) → Given s w r → stepOf s w .state ≡ s
+    go IllegalState (illegal b) = ap (λ (t : Stepped). t .state) (illegal-is s w b)
+    go UnknownWord (unknown ok b) = ap (λ (t : Stepped). t .state) (refused-is s w ok UnknownWord b)
+    go LevelTooLow (low i ok b l) = ap (λ (t : Stepped). t .state) (reply-is s w ok i b LevelTooLow (too-low s w ok i b l))
+    go AccessOff (off i ok b l a) = ap (λ (t : Stepped). t .state) (reply-is s w ok i b AccessOff (by-access s w ok i b false a l))
+    go Done (done i ok b l a) = absurd (h (given-reply s w Done (done i ok b l a)))
+
+-- an accepted word touches nothing but the registers that its instruction names as written
+pub accepted-untouched : (s : State) (w : ℕ) (i : Instruction) → decodeOf w ≡ Ours i → stepOf s w .reply ≡ Done → Untouched s (stepOf s w .state) (registersOf i)
+accepted-untouched s w i h e = subst (λ (t : State). Untouched s t (registersOf i)) (sym (accepted-step s w i h e)) (untouched s i)

@@ -1,0 +1,34 @@
+-- `values` meets its contract. Assumes nothing.
+use borrow.Author.Needs.{needs}
+use Rattle.machine.proofs.Executing.{values-are}
+use Rattle.machine.proofs.values.Statement.{statement}
+use Rattle.machine.proofs.values.Tie as tie
+
+read-x-requires : tie.Need-read-x-requires
+read-x-requires c κs = search needs
+
+read-x-requires-2 : tie.Need-read-x-requires-2
+read-x-requires-2 c κs = search needs
+
+read-p-requires : tie.Need-read-p-requires
+read-p-requires c κs = search needs
+
+read-p-requires-2 : tie.Need-read-p-requires-2
+read-p-requires-2 c κs = search needs
+
+read-p-requires-3 : tie.Need-read-p-requires-3
+read-p-requires-3 c κs = search needs
+
+returns : tie.Need-returns
+returns c = search (values-are, needs) depth 9
+
+pub values-spec : {M : Type 1} → statement M
+values-spec =
+    tie.close
+    (tie.spec
+    read-x-requires
+    read-x-requires-2
+    read-p-requires
+    read-p-requires-2
+    read-p-requires-3
+    returns)

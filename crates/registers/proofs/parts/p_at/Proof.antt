@@ -1,0 +1,27 @@
+-- `p_at` meets its contract. Assumes nothing.
+use mathlib.Core.Path.{_∙_}
+use native.Mathlib.Omega.{arith}
+use denote.Ref.{now}
+use Rattle.registers.proofs.PartLaws.{read-in, read-out}
+use borrow.Author.Needs.{needs}
+use Rattle.registers.proofs.parts.p_at.Statement.{statement}
+use Rattle.registers.proofs.parts.p_at.Tie as tie
+
+mul-words : tie.Need-mul-words
+mul-words c = search needs
+
+shared-slice-copy-out-words : tie.Need-shared-slice-copy-out-words
+shared-slice-copy-out-words c = search needs
+
+returns : tie.Need-returns
+returns c = read-in (now (c .before .before .args .p)) (c .before .before .args .r) (omega arith)
+
+none-requires : tie.Need-none-requires
+none-requires c κs = search needs
+
+returns-2 : tie.Need-returns-2
+returns-2 c = c .none .ensures ∙ read-out (now (c .before .before .args .p)) (c .before .before .args .r) (omega arith)
+
+pub p-at-spec : {M : Type 1} → statement M
+p-at-spec =
+    tie.close (tie.spec mul-words shared-slice-copy-out-words returns none-requires returns-2)

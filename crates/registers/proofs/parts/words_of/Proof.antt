@@ -1,0 +1,66 @@
+-- `words_of` meets its contract. Assumes nothing.
+use mathlib.Core.Path.{_≡_, refl, sym, _∙_}
+use Prim.Native.Nat.{_≤_, _-_}
+use native.Mathlib.Omega.{arith}
+use lib.ListN.{length, take, length-set}
+use borrow.Author.Needs.{needs}
+use Rattle.registers.proofs.Registers.{length-mapped}
+use Rattle.registers.specs.Parts.{predicatesOf}
+use Rattle.registers.proofs.PartLaws.{predicates-length}
+use Rattle.registers.proofs.PartLaws.{copied-all, words-more}
+use Rattle.registers.proofs.parts.words_of.Statement.{statement}
+use Rattle.registers.proofs.parts.words_of.Tie as tie
+
+abbrev Inv-loop : tie.InvT-loop
+Inv-loop p r₀ i₀ r i = (i ≤ 16) × (length r ≡ 16) × (length p ≡ 16) × (take i (predicatesOf r) ≡ take i p)
+
+abbrev μ-loop : tie.MeasureT-loop
+μ-loop p r₀ i₀ r i = 16 - i
+
+loop-holds : tie.Need-loop-holds Inv-loop μ-loop
+loop-holds c = (omega arith, refl, search (needs, length-mapped), refl)
+
+mul-q : tie.Need-mul-q Inv-loop μ-loop
+mul-q c = search needs
+
+array-copy-out-q : tie.Need-array-copy-out-q Inv-loop μ-loop
+array-copy-out-q c = search needs
+
+mul-r : tie.Need-mul-r Inv-loop μ-loop
+mul-r c = search needs
+
+array-set-from-r : tie.Need-array-set-from-r Inv-loop μ-loop
+array-set-from-r c = search needs
+
+add-i : tie.Need-add-i Inv-loop μ-loop
+add-i c = search needs
+
+loop-less : tie.Need-loop-less Inv-loop μ-loop
+loop-less c = search needs
+
+loop-again : tie.Need-loop-again Inv-loop μ-loop
+loop-again c =
+    let l = c .before .before .before .loop in
+    let p = c .before .before .before .before .args .t1 in
+    (omega arith, simp length-set (l .inv .1), l .inv .2, words-more (l .r) p (l .i) _ (omega arith) (omega arith) (l .inv .3))
+
+returns : tie.Need-returns Inv-loop μ-loop
+returns c =
+    let l = c .before .loop in
+    copied-all (predicatesOf (l .r)) (c .before .before .args .t1) (l .i) (omega (arith, predicates-length (l .r))) (omega arith) (l .inv .3)
+
+pub words-of-spec : {M : Type 1} → statement M
+words-of-spec =
+    tie.close
+    (tie.spec
+    Inv-loop
+    μ-loop
+    loop-holds
+    mul-q
+    array-copy-out-q
+    mul-r
+    array-set-from-r
+    add-i
+    loop-less
+    loop-again
+    returns)

@@ -1,0 +1,22 @@
+-- The register state by its parts, as a host lends them.
+use Prim.Native.Nat.{ℕ}
+use mathlib.Core.Bool.{Bool, false}
+use mathlib.Core.List.{List, [], _∷_}
+use lib.ListN.{getD}
+use Rattle.predicates.specs.declared.Flags.{Flags}
+use Rattle.predicates.specs.declared.Predicate.{Predicate}
+use Rattle.registers.specs.declared.State.{State}
+use Rattle.registers.specs.declared.parts.Settings.{Settings}
+
+-- predicates, each by its four words
+unfoldable pub predicatesOf : List (List ℕ) → List Predicate
+predicatesOf [] = []
+predicatesOf (w ∷ ws) = record { words = w } ∷ predicatesOf ws
+
+-- N, Z, C and V in this order
+abbrev pub flagsAt : List Bool → Flags
+flagsAt f = record { n = getD f 0 false; z = getD f 1 false; c = getD f 2 false; v = getD f 3 false }
+
+-- the state of these settings, flags, X and P registers
+abbrev pub stateAt : Settings → List Bool → List ℕ → List (List ℕ) → State
+stateAt s f x p = record { vl = s .vl; level = s .level; access = s .access; flags = flagsAt f; x = x; p = predicatesOf p }

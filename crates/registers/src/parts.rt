@@ -1,0 +1,135 @@
+// The parts of a register state, each lent: reads and writes where they stand.
+use predicates::Predicate;
+ghost use mathlib.Core.Path.{_≡_};
+ghost use mathlib.Core.Bool.{Bool};
+ghost use mathlib.Core.List.{List};
+ghost use Prim.Native.Nat.{ℕ};
+ghost use lib.ListN.{getD, set};
+ghost use Rattle.bits.specs.Choice.{pick};
+ghost use Rattle.bits.specs.Search.{some};
+ghost use Rattle.predicates.specs.Predicate.{bitAt, pack, allFalse};
+ghost use Rattle.predicates.specs.PredTest.{flagsOf};
+ghost use Rattle.registers.specs.Legal.{legal};
+ghost use Rattle.registers.specs.Parts.{predicatesOf, flagsAt, stateAt};
+
+// What no instruction changes.
+#[repr(C)]
+pub struct Settings {
+    // The vector length in bits.
+    pub vl: u64,
+    // 0 none, 1 SVE, 2 SVE2, 3 SVE2p1.
+    pub level: u8,
+    pub access: bool,
+}
+
+// A number past the last register reads as zero.
+pub fn x_at(x: &[u64], r: u64) -> u64
+    ensures { λ v. ⌜ v ≡ getD (now (x .entry)) r 0 ⌝ }
+{
+    let i = r as usize;
+    if i < x.len() { x[i] } else { 0 }
+}
+
+// A write past the last register vanishes.
+pub fn put_x(x: &mut [u64], r: u64, v: u64)
+    ensures { λ _. ⌜ now (x .exit) ≡ set (now (x .entry)) r v ⌝ }
+{
+    let i = r as usize;
+    if i < x.len() {
+        x[i] = v;
+    }
+}
+
+// A number past the last register reads as all false.
+pub fn p_at(p: &[[u64; 4]], r: u64) -> Predicate
+    ensures { λ q. ⌜ q ≡ getD (predicatesOf (now (p .entry))) r allFalse ⌝ }
+{
+    let i = r as usize;
+    if i < p.len() {
+        let words = p[i];
+        return Predicate { words };
+    }
+    Predicate::none()
+}
+
+// A write past the last register vanishes.
+pub fn put_p(p: &mut [[u64; 4]], r: u64, q: Predicate)
+    ensures { λ _. ⌜ predicatesOf (now (p .exit)) ≡ set (predicatesOf (now (p .entry))) r q ⌝ }
+{
+    let i = r as usize;
+    if i < p.len() {
+        let words = q.words;
+        p[i] = words;
+    }
+}
+
+// The flags of a number NZCV, if they are to be set.
+pub fn put_flags(flags: &mut [bool; 4], sets: bool, nzcv: u64)
+    ensures { λ _. ⌜ flagsAt (now (flags .exit)) ≡ pick sets (flagsOf nzcv) (flagsAt (now (flags .entry))) ⌝ }
+{
+    if sets {
+        let written = [
+            (nzcv >> 3) % 2 == 1,
+            (nzcv >> 2) % 2 == 1,
+            (nzcv >> 1) % 2 == 1,
+            (nzcv >> 0) % 2 == 1,
+        ];
+        *flags = written;
+    }
+}
+
+// The bits that any of the predicates has.
+fn union(p: &[[u64; 4]]) -> Predicate
+    ensures { λ q. ⌜ q ≡ pack (λ b. some (λ r. bitAt (getD (predicatesOf (now (p .entry))) r allFalse) b) 16) ⌝ }
+{
+    let mut q = Predicate::none();
+    let mut i = 0;
+    while i < 16 {
+        let one = p_at(p, i);
+        q = one.or(q);
+        i += 1;
+    }
+    q
+}
+
+// Whether reply 4 does not refuse a state of these settings and predicates, whatever its flags and X registers.
+pub fn is_legal(settings: Settings, p: &[[u64; 4]]) -> bool
+    ensures { λ r. ⌜ ((f : List Bool) → (x : List ℕ) → r ≡ legal (stateAt settings f x (now (p .entry)))) ⌝ }
+{
+    if !super::is_length(settings.vl) {
+        return false;
+    }
+    if 3 < settings.level {
+        return false;
+    }
+    union(p).is_within(predicates::predicate_length(settings.vl))
+}
+
+// Each predicate by its words.
+pub fn words_of(p: [Predicate; 16]) -> [[u64; 4]; 16]
+    ensures { λ r. ⌜ predicatesOf r ≡ p ⌝ }
+{
+    let mut r = [[0u64; 4]; 16];
+    let mut i = 0;
+    while i < 16 {
+        let q = p[i];
+        let words = q.words;
+        r[i] = words;
+        i += 1;
+    }
+    r
+}
+
+// The predicates of these words.
+pub fn predicates_of(p: [[u64; 4]; 16]) -> [Predicate; 16]
+    ensures { λ r. ⌜ r ≡ predicatesOf p ⌝ }
+{
+    let mut r = [Predicate { words: [0; 4] }; 16];
+    let mut i = 0;
+    while i < 16 {
+        let words = p[i];
+        r[i] = Predicate { words };
+        i += 1;
+    }
+    r
+}
