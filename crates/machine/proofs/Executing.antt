@@ -64,8 +64,10 @@ written s f g x y p q o r e hf hx hq ho =
   where
     state : Flags → List ℕ → List Predicate → State
     state k y z = record { vl = s .vl; level = s .level; access = s .access; flags = k; x = y; p = z }
+
     flags : Flags
     flags = pick (r .flags) (flagsOf (e .nzcv)) (flagsAt f)
+
     go : (b : Bool) → state (pick b (flagsOf (e .nzcv)) (flagsAt f)) (set x (r .rd) (e .rd)) (set (set (predicatesOf p) (r .pd) (e .pd)) (r .pd2) (e .pd2))
         ≡ withP (withP (withX (pick b (withFlags (stateAt s f x p) (flagsOf (e .nzcv))) (stateAt s f x p)) (r .rd) (e .rd)) (r .pd) (e .pd)) (r .pd2) (e .pd2)
     go true = refl

@@ -10,14 +10,14 @@ use lib.Seq.{drop-cons}
 use borrow.Author.Tests.{lt-ltb, le-ltb, not-true, not-false}
 use Rattle.bits.specs.Choice.{pick}
 use Rattle.bits.proofs.Searches.{never}
-use Rattle.predicates.specs.declared.Predicate.{Predicate}
 use Rattle.replies.specs.declared.Reply.{Reply}
 use Rattle.replies.specs.declared.Reply.the-variants.{Done, LevelTooLow, AccessOff, IllegalState}
 use Rattle.replies.specs.Reply.{isDone}
 use Rattle.registers.specs.declared.State.{State}
 use Rattle.registers.specs.declared.parts.Settings.{Settings}
 use Rattle.registers.specs.Legal.{legal}
-use Rattle.registers.specs.Parts.{predicatesOf, flagsAt, stateAt}
+use Rattle.registers.specs.Parts.{predicatesOf, stateAt, settingsOf}
+use Rattle.registers.proofs.PartLaws.{parts-are}
 use Rattle.registers.proofs.Registers.{Sized}
 use Rattle.words.specs.declared.Decoded.{Decoded}
 use Rattle.words.specs.declared.Decoded.the-variants.{Ours, Refused}
@@ -141,15 +141,12 @@ module _ (ws : List ℕ) (s : State) (r : Ran) (done : ℕ) (inv : afterWords do
 
 -- ---- a run of a state by value, over its parts
 
-pub ran : (s t : State) (ws : List ℕ) (done : ℕ) (reply refused : Reply) (f : List Bool) (x : List ℕ) (p q : List (List ℕ)) (r : List Predicate)
-    → predicatesOf p ≡ s .p
-    → record { reply = reply; refused = refused; done = done; state = stateAt (record { vl = s .vl; level = s .level; access = s .access }) f x q }
-    ≡ runOf (stateAt (record { vl = s .vl; level = s .level; access = s .access }) (s .flags .n ∷ s .flags .z ∷ s .flags .c ∷ s .flags .v ∷ []) (s .x) p) ws
-    → r ≡ predicatesOf q → t ≡ record { vl = s .vl; level = s .level; access = s .access; flags = flagsAt f; x = x; p = r }
-    → record { reply = reply; refused = refused; done = done; state = t } ≡ runOf s ws
-ran s t ws done reply refused f x p q r hp h hr ht =
-    ap (λ (u : State). record { reply = reply; refused = refused; done = done; state = u }) (ht ∙ ap (λ (z : List Predicate). record { vl = s .vl; level = s .level; access = s .access; flags = flagsAt f; x = x; p = z }) hr)
-    ∙ h ∙ ap (λ (z : List Predicate). runOf (record { vl = s .vl; level = s .level; access = s .access; flags = s .flags; x = s .x; p = z }) ws) hp
+pub ran : (s t : State) (u : Settings) (ws : List ℕ) (done : ℕ) (reply refused : Reply) (f g : List Bool) (x : List ℕ) (p q : List (List ℕ))
+    → u ≡ settingsOf s → f ≡ s .flags .n ∷ s .flags .z ∷ s .flags .c ∷ s .flags .v ∷ [] → predicatesOf p ≡ s .p
+    → record { reply = reply; refused = refused; done = done; state = stateAt u g x q } ≡ runOf (stateAt u f (s .x) p) ws
+    → t ≡ stateAt u g x q → record { reply = reply; refused = refused; done = done; state = t } ≡ runOf s ws
+ran s t u ws done reply refused f g x p q hu hf hp h ht =
+    ap (λ (z : State). record { reply = reply; refused = refused; done = done; state = z }) ht ∙ h ∙ ap (λ (z : State). runOf z ws) (parts-are s u f p hu hf hp)
 
 -- ---- a legal state stays legal, refused or not
 

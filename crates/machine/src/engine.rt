@@ -81,7 +81,7 @@ fn attempt(
 }
 
 // A step of a state that is known to be legal.
-pub fn next(
+fn next(
     settings: Settings,
     flags: &mut [bool; 4],
     x: &mut [u64],

@@ -14,7 +14,6 @@ use instructions::Registers;
 use instructions::Values;
 use predicates::Flags;
 use registers::State;
-use registers::parts::Settings;
 use replies::Reply;
 use words::Decoded;
 use words::Instruction;
@@ -61,25 +60,14 @@ impl Machine {
         ensures { λ r. ⌜ r ≡ runOf (self .state) (now (words .entry)) ⌝ }
     {
         let state = self.state;
+        let settings = state.settings();
         let f = state.flags;
-        let mut flags = [f.n, f.z, f.c, f.v];
+        let mut flags = registers::parts::bits_of_flags(f);
         let mut x = state.x;
         let held = state.p;
         let mut p = registers::parts::words_of(held);
-        let settings = Settings {
-            vl: state.vl,
-            level: state.level,
-            access: state.access,
-        };
         let went = engine::run(settings, &mut flags, &mut x, &mut p, words);
-        let after = Flags {
-            n: flags[0],
-            z: flags[1],
-            c: flags[2],
-            v: flags[3],
-        };
-        let q = registers::parts::predicates_of(p);
-        let next = State::new(state.vl, state.level, state.access, after, x, q);
+        let next = registers::parts::state_of(settings, flags, x, p);
         let reply = went.reply;
         let refused = went.refused;
         Ran {

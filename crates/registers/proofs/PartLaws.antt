@@ -10,13 +10,15 @@ use lib.Seq.{set-out, take-suc, take-suc-set, take-length}
 use Rattle.bits.specs.Bits.{testBit}
 use Rattle.bits.specs.Choice.{pick}
 use Rattle.bits.specs.Search.{some}
+use Rattle.predicates.specs.declared.Flags.{Flags}
 use Rattle.predicates.specs.declared.Predicate.{Predicate}
 use Rattle.predicates.specs.Predicate.{allFalse, pack, bitAt, predicateLength, hasBitFrom}
 use Rattle.predicates.specs.PredTest.{flagsOf}
 use Rattle.registers.specs.declared.State.{State}
+use Rattle.registers.specs.declared.parts.Settings.{Settings}
 use Rattle.registers.specs.State.{readP}
 use Rattle.registers.specs.Legal.{isLength, legal}
-use Rattle.registers.specs.Parts.{predicatesOf, flagsAt}
+use Rattle.registers.specs.Parts.{predicatesOf, flagsAt, stateAt, settingsOf}
 use Rattle.registers.proofs.Legality.{rest, stray-union}
 
 pub predicates-length : (l : List (List ℕ)) → length (predicatesOf l) ≡ length l
@@ -70,3 +72,15 @@ module _ {A : Type 0} where
 pub words-more : (r : List (List ℕ)) (p : List Predicate) (i : ℕ) (d : Predicate) → i < length r → i < length p → take i (predicatesOf r) ≡ take i p
     → take (i + 1) (predicatesOf (set r i (getD p i d .words))) ≡ take (i + 1) p
 words-more r p i d h k e = ap (take (i + 1)) (write-in r i (getD p i d)) ∙ copied-more (predicatesOf r) p i d (getD p i d) (rw (predicates-length r) h) k refl e
+
+-- ---- the parts of a state make it again
+
+pub parts-are : (s : State) (u : Settings) (f : List Bool) (p : List (List ℕ)) → u ≡ settingsOf s → f ≡ s .flags .n ∷ s .flags .z ∷ s .flags .c ∷ s .flags .v ∷ [] → predicatesOf p ≡ s .p
+    → stateAt u f (s .x) p ≡ s
+parts-are s u f p hu hf hp =
+    ap (λ (v : Settings). stateAt v f (s .x) p) hu ∙ ap (λ (b : List Bool). stateAt (settingsOf s) b (s .x) p) hf
+    ∙ ap (λ (q : List Predicate). record { vl = s .vl; level = s .level; access = s .access; flags = s .flags; x = s .x; p = q }) hp
+
+pub made : (u : Settings) (f : List Bool) (g : Flags) (x : List ℕ) (p : List (List ℕ)) (q : List Predicate) (s : State) → g ≡ flagsAt f → q ≡ predicatesOf p
+    → s ≡ record { vl = u .vl; level = u .level; access = u .access; flags = g; x = x; p = q } → s ≡ stateAt u f x p
+made u f g x p q s hg hq h = h ∙ (λ i. record { vl = u .vl; level = u .level; access = u .access; flags = hg i; x = x; p = hq i })

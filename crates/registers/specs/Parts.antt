@@ -20,3 +20,6 @@ flagsAt f = record { n = getD f 0 false; z = getD f 1 false; c = getD f 2 false;
 -- the state of these settings, flags, X and P registers
 abbrev pub stateAt : Settings → List Bool → List ℕ → List (List ℕ) → State
 stateAt s f x p = record { vl = s .vl; level = s .level; access = s .access; flags = flagsAt f; x = x; p = predicatesOf p }
+
+abbrev pub settingsOf : State → Settings
+settingsOf s = record { vl = s .vl; level = s .level; access = s .access }

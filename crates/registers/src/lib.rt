@@ -4,10 +4,12 @@ ghost use Rattle.bits.specs.Search.{some};
 ghost use Rattle.predicates.specs.Predicate.{bitAt, pack};
 ghost use lib.ListN.{getD};
 ghost use Rattle.registers.specs.State.{allFalse, readX, readP, withX, withP, withFlags};
+ghost use Rattle.registers.specs.Parts.{settingsOf};
 ghost use Rattle.registers.specs.Legal.{isLength, legal};
 
 pub mod parts;
 
+use parts::Settings;
 use predicates::Flags;
 use predicates::Predicate;
 
@@ -42,6 +44,16 @@ impl State {
             flags,
             x,
             p,
+        }
+    }
+
+    pub fn settings(self) -> Settings
+        ensures { λ r. ⌜ r ≡ settingsOf self ⌝ }
+    {
+        Settings {
+            vl: self.vl,
+            level: self.level,
+            access: self.access,
         }
     }
 

@@ -1,8 +1,10 @@
 // The parts of a register state, each lent: reads and writes where they stand.
+use super::State;
+use predicates::Flags;
 use predicates::Predicate;
 ghost use mathlib.Core.Path.{_≡_};
 ghost use mathlib.Core.Bool.{Bool};
-ghost use mathlib.Core.List.{List};
+ghost use mathlib.Core.List.{List, [], _∷_};
 ghost use Prim.Native.Nat.{ℕ};
 ghost use lib.ListN.{getD, set};
 ghost use Rattle.bits.specs.Choice.{pick};
@@ -132,4 +134,36 @@ pub fn predicates_of(p: [[u64; 4]; 16]) -> [Predicate; 16]
         i += 1;
     }
     r
+}
+
+// N, Z, C and V.
+pub fn bits_of_flags(flags: Flags) -> [bool; 4]
+    ensures { λ r. ⌜ r ≡ flags .n ∷ flags .z ∷ flags .c ∷ flags .v ∷ [] ⌝ }
+{
+    [flags.n, flags.z, flags.c, flags.v]
+}
+
+pub fn flags_of(bits: [bool; 4]) -> Flags
+    ensures { λ r. ⌜ r ≡ flagsAt bits ⌝ }
+{
+    Flags {
+        n: bits[0],
+        z: bits[1],
+        c: bits[2],
+        v: bits[3],
+    }
+}
+
+// The state of these parts.
+pub fn state_of(settings: Settings, flags: [bool; 4], x: [u64; 31], p: [[u64; 4]; 16]) -> State
+    ensures { λ s. ⌜ s ≡ stateAt settings flags x p ⌝ }
+{
+    State::new(
+        settings.vl,
+        settings.level,
+        settings.access,
+        flags_of(flags),
+        x,
+        predicates_of(p),
+    )
 }

@@ -1,17 +1,17 @@
 -- The lines of an image, from what its reading answered. Assumes nothing.
-use mathlib.Core.Bool.{Bool, true, false}
+use mathlib.Core.Bool.{Bool, true, false, not}
 use mathlib.Core.List.{List, [], _∷_}
 use mathlib.Core.Path.{_≡_, refl, sym, ap, ap₂, _∙_, subst}
 use Prim.Native.Nat.{ℕ, _≤_}
 use lib.ListN.{length, take, drop, length-append}
 use lib.Seq.{take-at}
 use native.Mathlib.Omega.{arith}
-use borrow.Author.Tests.{eq-eqb, ne-eqb, eqb-true}
+use lib.Dec.{eqb}
+use borrow.Author.Tests.{eqb-true, not-true, not-false}
 use Rattle.bits.specs.Choice.{pick}
 use Rattle.replies.specs.declared.Reply.{Reply}
 use Rattle.replies.specs.declared.Reply.the-variants as R
 use Rattle.registers.specs.declared.State.{State}
-use Rattle.registers.specs.Legal.{legal}
 use Rattle.replies.specs.Reply.{numberOf}
 use Rattle.image.specs.declared.Reading.{Reading}
 use Rattle.image.specs.Bytes.{value, over}
@@ -19,7 +19,7 @@ use Rattle.replies.specs.Reply.{isDone}
 use Rattle.image.specs.Reading.{imageReply, stateOf, wordsOf, countOf, contentOf, wordsAt, blank, readOf, listAfter}
 use Rattle.image.proofs.Bytes.{AreBytes, length-parts}
 use Rattle.replies.proofs.Replies.{number-done}
-use Rattle.image.proofs.RoundTrips.{read-legal, read-few}
+use Rattle.image.proofs.RoundTrips.{read-few}
 use Rattle.report.specs.Lines.{imageLine, after, placed}
 use Rattle.transcript.specs.Transcript.{linesOf, transcriptOf, afterAll, placedAll}
 use Rattle.transcript.proofs.Puts.{last-put, same-start}
@@ -27,7 +27,6 @@ use Rattle.transcript.proofs.Puts.{last-put, same-start}
 -- what the code needs of a reading without a fault
 pub record Fine (image list : List ℕ) (r : Reading) (filled : List ℕ) : Type 0 where
   pub room : r .count ≤ length filled
-  pub legal-is : legal (r .state) ≡ true
   pub few : length (take (r .count) filled) ≤ 4096
   pub stepped : (out : List ℕ) (end : ℕ) (last : List ℕ) → end ≡ afterAll (linesOf (r .state) 0 (take (r .count) filled)) 0 (length out)
       → last ≡ placedAll (linesOf (r .state) 0 (take (r .count) filled)) 0 out
@@ -48,24 +47,27 @@ module _ (image list : List ℕ) (r : Reading) (er : r ≡ readOf (length list) 
       go false e = refl
 
   -- a refused image
-  only : (n m : ℕ) → n ≡ numberOf (r .reply) → m ≡ numberOf (r .reply) → (n ≡ 0 → ⊥) → transcriptOf (length list) image ≡ imageLine m ∷ []
-  unfolding transcriptOf
-  only n m en em z = rw (ne-eqb (numberOf reply) 0 (λ y. z (en ∙ told ∙ y)), em, told)
+  done-is : (b : Bool) → b ≡ isDone (r .reply) → isDone reply ≡ b
+  done-is b eb = sym (eb ∙ ap (λ (n : ℕ). eqb n 0) told)
 
-  pub refused : (out : List ℕ) (n m : ℕ) (end : ℕ) (last : List ℕ) → n ≡ numberOf (r .reply) → m ≡ numberOf (r .reply) → (n ≡ 0 → ⊥)
+  only : (b : Bool) (m : ℕ) → b ≡ isDone (r .reply) → m ≡ numberOf (r .reply) → not b ≡ true → transcriptOf (length list) image ≡ imageLine m ∷ []
+  unfolding transcriptOf
+  only b m eb em h = rw (done-is b eb ∙ not-true b h, em, told)
+
+  pub refused : (out : List ℕ) (b : Bool) (m : ℕ) (end : ℕ) (last : List ℕ) → b ≡ isDone (r .reply) → m ≡ numberOf (r .reply) → not b ≡ true
       → end ≡ after (imageLine m) 0 (length out) → last ≡ placed (imageLine m) 0 out
       → (end ≡ afterAll (transcriptOf (length list) image) 0 (length out)) × (last ≡ placedAll (transcriptOf (length list) image) 0 out)
-  refused out n m end last en em z ee el =
-      subst (λ (x : List (List ℕ)). (end ≡ afterAll x 0 (length out)) × (last ≡ placedAll x 0 out)) (sym (only n m en em z))
+  refused out b m end last eb em h ee el =
+      subst (λ (x : List (List ℕ)). (end ≡ afterAll x 0 (length out)) × (last ≡ placedAll x 0 out)) (sym (only b m eb em h))
       (last-put _ 0 out (imageLine m) 0 out end last ee el (same-start (imageLine m ∷ []) 0 out))
 
   -- an image without a fault
-  module _ (n : ℕ) (en : n ≡ numberOf (r .reply)) (z : n ≡ 0) (bytes : AreBytes image) (filled : List ℕ) (ef : filled ≡ listAfter image list) where
-    none : reply ≡ R.Done
-    none = number-done reply (sym told ∙ sym en ∙ z)
-
+  module _ (b : Bool) (eb : b ≡ isDone (r .reply)) (h : not b ≡ false) (bytes : AreBytes image) (filled : List ℕ) (ef : filled ≡ listAfter image list) where
     is-done : isDone reply ≡ true
-    is-done = eq-eqb (numberOf reply) 0 (sym told ∙ sym en ∙ z)
+    is-done = done-is b eb ∙ not-false b h
+
+    none : reply ≡ R.Done
+    none = number-done reply (eqb-true (numberOf reply) 0 is-done)
 
     read-is : r ≡ record { reply = R.Done; state = stateOf image; count = countOf (wordsAt image) }
     unfolding readOf
@@ -97,7 +99,6 @@ module _ (image list : List ℕ) (r : Reading) (er : r ≡ readOf (length list) 
     whole =
         record {
           room = has-room;
-          legal-is = ap (λ (x : Reading). legal (x .state)) read-is ∙ read-legal image (length list) bytes none;
           few = rw words-are (read-few image (length list) bytes none);
           stepped = λ out end last ee el. (ee ∙ ap (λ (x : List (List ℕ)). afterAll x 0 (length out)) lines-are, el ∙ ap (λ (x : List (List ℕ)). placedAll x 0 out) lines-are);
         }

@@ -10,12 +10,13 @@ use Rattle.predicates.specs.Predicate.{bitAt, pack, active, spread, elements, p
 use Rattle.registers.specs.Legal.{isLength, hasStrayBit, illegal}
 use Rattle.registers.specs.State.{withX, withP, withFlags}
 use Rattle.words.specs.Words.{firstOf}
-use Rattle.instructions.specs.Counter.{counterOf, counterFlags}
-use Rattle.instructions.specs.Instructions.{whileOne, whilePair, whileCounter, pnext, computeOf}
-use Rattle.instructions.specs.While.{allHeld, whileElement}
+use Rattle.instructions.specs.Counter.{counterOf, counterFlags, whileCounterOf}
+use Rattle.instructions.specs.Instructions.{computeOf}
+use Rattle.instructions.specs.Searches.{pnextOf}
+use Rattle.instructions.specs.Whiles.{allHeld, whileElement, whileOneOf, whilePairOf}
 use Rattle.scalars.specs.While.{operandAt, comparison}
-use Rattle.machine.specs.Effect.{setFlags, apply}
-use Rattle.machine.specs.Step.{effectOf, executeOf, afterWord, stepOf}
+use Rattle.machine.specs.Execute.{apply, executeOf}
+use Rattle.machine.specs.Step.{afterWord, stepOf}
 use Rattle.image.specs.Bytes.{value, parts}
 use Rattle.image.specs.Reading.{sectionFault, orElse, settingsWrong, flagsWrong, flagsIn, predicateOf, wordsReply, flagsReply, predicatesReply, xReply, imageReply, stateOf, wordsOf}
 use Rattle.image.proofs.Example.{image}
@@ -32,7 +33,7 @@ wanted =
 
 -- with the list of 4,096 places that the program lends
 pub example : text (transcriptOf 4096 image) ≡ wanted
-unfolding transcriptOf linesOf text value parts sectionFault orElse settingsWrong flagsWrong flagsIn predicateOf wordsReply flagsReply predicatesReply xReply imageReply stateOf wordsOf wordLine endLine flagDigits decimalIn digits symbol testBit number elementBit count some afterLast scan bitAt pack active spread elements predicateLength hasBitFrom atLowest atHighest predTest nzcv flagsOf isLength hasStrayBit illegal withX withP withFlags firstOf operandAt comparison allHeld whileElement counterOf counterFlags whileOne whilePair whileCounter pnext computeOf setFlags apply effectOf executeOf afterWord stepOf
+unfolding transcriptOf linesOf text value parts sectionFault orElse settingsWrong flagsWrong flagsIn predicateOf wordsReply flagsReply predicatesReply xReply imageReply stateOf wordsOf wordLine endLine flagDigits decimalIn digits symbol testBit number elementBit count some afterLast scan bitAt pack active spread elements predicateLength hasBitFrom atLowest atHighest predTest nzcv flagsOf isLength hasStrayBit illegal withX withP withFlags firstOf operandAt comparison allHeld whileElement counterOf counterFlags whileOneOf whilePairOf whileCounterOf pnextOf computeOf apply executeOf afterWord stepOf
 example = refl
 
 -- in every buffer that is long enough for all images

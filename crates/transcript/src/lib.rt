@@ -1,9 +1,7 @@
 // The program's work: from an image's bytes to the lines that it writes.
-ghost use mathlib.Core.Bool.{true};
 ghost use mathlib.Core.Path.{_≡_};
 ghost use Prim.Native.Nat.{_≤_};
 ghost use lib.ListN.{length};
-ghost use Rattle.registers.specs.Legal.{legal};
 ghost use Rattle.image.specs.Reading.{listAfter};
 ghost use Rattle.transcript.specs.Transcript.{linesOf, transcriptOf, afterAll, placedAll};
 use registers::State;
@@ -16,7 +14,7 @@ pub fn transcript(image: &[u8], words: &mut [u32], out: &mut [u8]) -> usize
 {
     let reading = image::read(image, words);
     let reply = reading.reply;
-    if reply.number() != 0 {
+    if !reply.is_done() {
         return report::image_line(reply.number(), 0, out);
     }
     let state = reading.state;
@@ -24,23 +22,26 @@ pub fn transcript(image: &[u8], words: &mut [u32], out: &mut [u8]) -> usize
     word_lines(state, &words[..count], out)
 }
 
-// The words stepped from a legal state: the reader has tested it, and an instruction keeps it.
+// The words stepped, over the state's parts.
 fn word_lines(state: State, words: &[u32], out: &mut [u8]) -> usize
-    requires { ⌜ (legal state ≡ true) × (length (now words) ≤ 4096) ⌝ }
+    requires { ⌜ length (now words) ≤ 4096 ⌝ }
     ensures { λ r. ⌜ r ≡ afterAll (linesOf state 0 (now (words .entry))) 0 (length (now (out .entry))) ⌝ }
     ensures { λ r. ⌜ now (out .exit) ≡ placedAll (linesOf state 0 (now (words .entry))) 0 (now (out .entry)) ⌝ }
 {
-    let mut s = state;
+    let settings = state.settings();
+    let f = state.flags;
+    let mut flags = registers::parts::bits_of_flags(f);
+    let mut x = state.x;
+    let held = state.p;
+    let mut p = registers::parts::words_of(held);
     let mut at = 0;
     let mut done = 0;
     while done < words.len() {
         let word = words[done];
-        let stepped = machine::after_word(s, words::decode(word));
-        let reply = stepped.reply;
-        s = stepped.state;
-        let flags = s.flags;
-        at = report::word_line(done as u32, word, reply.number(), flags, at, out);
-        if reply.number() != 0 {
+        let reply = machine::engine::step(settings, &mut flags, &mut x, &mut p, word);
+        let after = registers::parts::flags_of(flags);
+        at = report::word_line(done as u32, word, reply.number(), after, at, out);
+        if !reply.is_done() {
             return report::end_line(done as u32, at, out);
         }
         done += 1;

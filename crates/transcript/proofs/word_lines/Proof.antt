@@ -1,27 +1,57 @@
--- `word_lines` meets its contract. The invariant: the lines that are left, put from here on, give what all the lines give. Assumes nothing.
-use mathlib.Core.Path.{refl, sym, ap, _∙_}
-use Prim.Native.Nat.{_-_, _≤_}
+-- `word_lines` meets its contract. Assumes nothing.
+use mathlib.Core.List.{List}
+use mathlib.Core.Path.{_≡_, refl, sym, ap, _∙_}
+use Prim.Native.Nat.{ℕ, _-_, _≤_}
 use native.Mathlib.Omega.{arith}
-use lib.ListN.{length}
+use lib.ListN.{length, drop}
 use borrow.Author.Needs.{needs}
-use Rattle.registers.proofs.Registers.{length-mapped}
-use Rattle.transcript.proofs.Puts.{placed-length, same-start}
-use Rattle.transcript.proofs.Turns.{Here, ended, turned, stopped}
+use Rattle.registers.specs.Parts.{stateAt}
+use Rattle.transcript.specs.Transcript.{linesOf, afterAll, placedAll}
+use Rattle.transcript.proofs.Puts.{Same, placed-length, same-start}
+use Rattle.transcript.proofs.Turns.{from-parts, ended, turned, stopped}
 use Rattle.transcript.proofs.word_lines.Statement.{statement}
 use Rattle.transcript.proofs.word_lines.Tie as tie
 
 abbrev Inv-loop : tie.InvT-loop
-Inv-loop words out₀ s₀ at₀ done₀ out s at done = (done ≤ length words) × Here words s₀ out₀ s done at out
+Inv-loop words out₀ settings flags₀ x₀ p₀ at₀ done₀ out flags x p at done =
+    (done ≤ length words) × (length x ≡ 31) × (length p ≡ 16)
+    × Same (linesOf (stateAt settings flags x p) done (drop done words)) at out (linesOf (stateAt settings flags₀ x₀ p₀) 0 words) 0 out₀
 
 abbrev μ-loop : tie.MeasureT-loop
-μ-loop words out₀ s₀ at₀ done₀ out s at done = length words - done
+μ-loop words out₀ settings flags₀ x₀ p₀ at₀ done₀ out flags x p at done = length words - done
+
+-- the places that the answers look back to, each from a later one
+abbrev lined : tie.After-is-done Inv-loop μ-loop → tie.After-word-line Inv-loop μ-loop
+lined c = c .before .before .before
+
+abbrev stepped : tie.After-word-line Inv-loop μ-loop → tie.After-step Inv-loop μ-loop
+stepped c = c .before .before .before .before .before .before
+
+abbrev head : tie.After-step Inv-loop μ-loop → tie.At-loop Inv-loop μ-loop
+head c = c .before .before .before .before .before .before
+
+abbrev flagged : tie.At-loop Inv-loop μ-loop → tie.After-bits-of-flags Inv-loop μ-loop
+flagged c = c .before .before .before .before
+
+-- what the lines from the parts that the loop began with give, the state's lines give
+whole : (h : tie.At-loop Inv-loop μ-loop) (end : ℕ) (last : List ℕ) → let a = flagged h .before .before .before .before .before .args in
+    let parts = linesOf (stateAt (flagged h .before .before .settings .result) (flagged h .bits-of-flags .result) (a .state .x) (h .before .words-of .result)) 0 (a .words .now) in
+    (end ≡ afterAll parts 0 (length (a .out .now))) × (last ≡ placedAll parts 0 (a .out .now))
+    → (end ≡ afterAll (linesOf (a .state) 0 (a .words .now)) 0 (length (a .out .now))) × (last ≡ placedAll (linesOf (a .state) 0 (a .words .now)) 0 (a .out .now))
+whole h end last given =
+    from-parts _ _ _ _ _ _ last end (flagged h .before .before .settings .ensures) (flagged h .bits-of-flags .ensures) (h .before .words-of .ensures) given
+
+settings-requires : tie.Need-settings-requires Inv-loop μ-loop
+settings-requires c κs = search needs
+
+bits-of-flags-requires : tie.Need-bits-of-flags-requires Inv-loop μ-loop
+bits-of-flags-requires c κs = search needs
+
+words-of-requires : tie.Need-words-of-requires Inv-loop μ-loop
+words-of-requires c κs = search needs
 
 loop-holds : tie.Need-loop-holds Inv-loop μ-loop
-loop-holds c =
-    let a = c .before .before .args in (
-      omega arith,
-      record { kept = record { legal-is = c .before .before .pre .0; sized = record { xs = search needs; ps = search (needs, length-mapped) } }; same = same-start _ _ _ },
-    )
+loop-holds c = (omega arith, search needs, search needs, same-start _ _ _)
 
 mul-word : tie.Need-mul-word Inv-loop μ-loop
 mul-word c = search needs
@@ -29,11 +59,17 @@ mul-word c = search needs
 shared-slice-read-word : tie.Need-shared-slice-read-word Inv-loop μ-loop
 shared-slice-read-word c = search needs
 
-decode-requires : tie.Need-decode-requires Inv-loop μ-loop
-decode-requires c κs = search needs
+slice-aggregate-step : tie.Need-slice-aggregate-step Inv-loop μ-loop
+slice-aggregate-step c = search needs
 
-after-word-requires : tie.Need-after-word-requires Inv-loop μ-loop
-after-word-requires c κs = search needs
+slice-aggregate-step-2 : tie.Need-slice-aggregate-step-2 Inv-loop μ-loop
+slice-aggregate-step-2 c = search needs
+
+step-requires : tie.Need-step-requires Inv-loop μ-loop
+step-requires c κs = search needs
+
+flags-of-requires : tie.Need-flags-of-requires Inv-loop μ-loop
+flags-of-requires c κs = search needs
 
 cast-word-line : tie.Need-cast-word-line Inv-loop μ-loop
 cast-word-line c = omega arith
@@ -44,8 +80,8 @@ number-requires c κs = search needs
 word-line-requires : tie.Need-word-line-requires Inv-loop μ-loop
 word-line-requires c κs = search needs
 
-number-requires-2 : tie.Need-number-requires-2 Inv-loop μ-loop
-number-requires-2 c κs = search needs
+is-done-requires : tie.Need-is-done-requires Inv-loop μ-loop
+is-done-requires c κs = search needs
 
 cast-end-line : tie.Need-cast-end-line Inv-loop μ-loop
 cast-end-line c = omega arith
@@ -56,41 +92,27 @@ end-line-requires c κs = search needs
 same-length : tie.Need-same-length Inv-loop μ-loop
 same-length c =
     let e = c .before .before in
-    let w = e .before .before .before .before .before .before in
-    ap length (e .end-line .ensures .1) ∙ placed-length _ _ _ ∙ ap length (w .word-line .ensures .1) ∙ placed-length _ _ _ ∙ w .before .before .before .before .before .before .before .before .before .loop .inv .1 .same .long
+    let w = lined (e .before .before .before) in
+    ap length (e .end-line .ensures .1) ∙ placed-length _ _ _ ∙ ap length (w .word-line .ensures .1) ∙ placed-length _ _ _ ∙ head (stepped w) .loop .inv .3 .long
 
 returns : tie.Need-returns Inv-loop μ-loop
 returns c =
     let e = c .before .before in
     let i = e .before .before in
-    let w = i .before .before .before .before in
-    let n = w .before .before in
-    let t = n .before .before .before in
-    let at = t .before .before .before .before in
-    let a = at .before .before .before .args in
-    stopped (a .words .now) (a .state) (a .out .now) (at .loop .s) (at .loop .done) (at .loop .at) (at .loop .out) (at .loop .inv .1)
-    _ (t .before .decode .result) (t .after-word .result) (omega arith) refl (t .before .decode .ensures) (t .after-word .ensures)
-    _ (n .number .ensures) _ _ (w .word-line .ensures .0) (w .word-line .ensures .1) (λ z. i .if1 .taken (i .before .number2 .ensures ∙ z))
-    _ _ (e .end-line .ensures .0) (e .end-line .ensures .1)
+    let w = lined (i .before) in
+    let t = stepped w in
+    let h = head t in
+    whole h _ _ (stopped _ _ _ _ _ _ _ (h .loop .inv .3) _ _ _ (omega arith) (t .step .ensures) (i .before .is-done .ensures) _ _ _ _ (w .before .before .number .ensures)
+    (w .before .before .before .flags-of .ensures) (w .word-line .ensures .0) (w .word-line .ensures .1) _ _ (i .if1 .taken) (e .end-line .ensures .0) (e .end-line .ensures .1))
 
 add-done : tie.Need-add-done Inv-loop μ-loop
-add-done c = omega arith
+add-done c = search needs
 
 loop-less : tie.Need-loop-less Inv-loop μ-loop
-loop-less c = omega arith
+loop-less c = search needs
 
 loop-again : tie.Need-loop-again Inv-loop μ-loop
-loop-again c =
-    let w = c .before .before .before .before in
-    let n = w .before .before in
-    let t = n .before .before .before in
-    let at = t .before .before .before .before in
-    let a = at .before .before .before .args in (
-      omega arith,
-      turned (a .words .now) (a .state) (a .out .now) (at .loop .s) (at .loop .done) (at .loop .at) (at .loop .out) (at .loop .inv .1)
-          _ (t .before .decode .result) (t .after-word .result) (omega arith) refl (t .before .decode .ensures) (t .after-word .ensures)
-          _ (n .number .ensures) _ _ (w .word-line .ensures .0) (w .word-line .ensures .1) (sym (c .before .number2 .ensures) ∙ c .if1 .left),
-    )
+loop-again c = (omega arith, search needs, search needs, search (turned, needs) depth 9)
 
 cast-end-line-2 : tie.Need-cast-end-line-2 Inv-loop μ-loop
 cast-end-line-2 c = omega arith
@@ -101,15 +123,13 @@ end-line-requires-2 c κs = search needs
 same-length-2 : tie.Need-same-length-2 Inv-loop μ-loop
 same-length-2 c =
     let e = c .before .before in
-    ap length (e .end-line2 .ensures .1) ∙ placed-length _ _ _ ∙ e .before .before .before .loop .inv .1 .same .long
+    ap length (e .end-line2 .ensures .1) ∙ placed-length _ _ _ ∙ e .before .before .before .loop .inv .3 .long
 
 returns-2 : tie.Need-returns-2 Inv-loop μ-loop
 returns-2 c =
     let e = c .before .before in
-    let at = e .before .before .before in
-    let a = at .before .before .before .args in
-    ended (a .words .now) (a .state) (a .out .now) (at .loop .s) (at .loop .done) (at .loop .at) (at .loop .out) (at .loop .inv .1)
-    _ _ (omega arith) (e .end-line2 .ensures .0) (e .end-line2 .ensures .1)
+    let h = e .before .before .before in
+    whole h _ _ (ended _ _ _ _ _ _ _ (h .loop .inv .3) _ _ (omega arith) (e .end-line2 .ensures .0) (e .end-line2 .ensures .1))
 
 pub word-lines-spec : {M : Type 1} → statement M
 word-lines-spec =
@@ -117,15 +137,20 @@ word-lines-spec =
     (tie.spec
     Inv-loop
     μ-loop
+    settings-requires
+    bits-of-flags-requires
+    words-of-requires
     loop-holds
     mul-word
     shared-slice-read-word
-    decode-requires
-    after-word-requires
+    slice-aggregate-step
+    slice-aggregate-step-2
+    step-requires
+    flags-of-requires
     cast-word-line
     number-requires
     word-line-requires
-    number-requires-2
+    is-done-requires
     cast-end-line
     end-line-requires
     same-length

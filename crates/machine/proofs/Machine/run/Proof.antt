@@ -4,6 +4,12 @@ use Rattle.machine.proofs.Steps.{ran}
 use Rattle.machine.proofs.Machine.run.Statement.{statement}
 use Rattle.machine.proofs.Machine.run.Tie as tie
 
+settings-requires : tie.Need-settings-requires
+settings-requires c κs = search needs
+
+bits-of-flags-requires : tie.Need-bits-of-flags-requires
+bits-of-flags-requires c κs = search needs
+
 words-of-requires : tie.Need-words-of-requires
 words-of-requires c κs = search needs
 
@@ -16,23 +22,8 @@ slice-aggregate-run-2 c = search needs
 run-requires : tie.Need-run-requires
 run-requires c κs = search needs
 
-array-read-t24 : tie.Need-array-read-t24
-array-read-t24 c = search needs
-
-array-read-t27 : tie.Need-array-read-t27
-array-read-t27 c = search needs
-
-array-read-t30 : tie.Need-array-read-t30
-array-read-t30 c = search needs
-
-array-read-t33 : tie.Need-array-read-t33
-array-read-t33 c = search needs
-
-predicates-of-requires : tie.Need-predicates-of-requires
-predicates-of-requires c κs = search needs
-
-new-requires : tie.Need-new-requires
-new-requires c κs = search needs
+state-of-requires : tie.Need-state-of-requires
+state-of-requires c κs = search needs
 
 returns : tie.Need-returns
 returns c = search (ran, needs) depth 9
@@ -41,14 +32,11 @@ pub run-spec : {M : Type 1} → statement M
 run-spec =
     tie.close
     (tie.spec
+    settings-requires
+    bits-of-flags-requires
     words-of-requires
     slice-aggregate-run
     slice-aggregate-run-2
     run-requires
-    array-read-t24
-    array-read-t27
-    array-read-t30
-    array-read-t33
-    predicates-of-requires
-    new-requires
+    state-of-requires
     returns)
