@@ -1,14 +1,8 @@
 -- What the writer of words answers by the tests of an instruction's fields.
-use Prim.Native.Nat.{ℕ, _<_}
-use mathlib.Core.Path.{_≡_, refl, sym, ap, _∙_}
-use mathlib.Core.Bool.{Bool, true, false, and-true, and-assoc}
-use native.Mathlib.Omega.{arith}
-use lib.Dec.{ltb}
-use borrow.Author.Tests.{lt-ltb}
-use Rattle.bits.specs.Choice.{pick, digit}
-use Rattle.bits.specs.Size.{shift}
-use Rattle.bits.specs.declared.Size.{Size}
-use Rattle.bits.specs.declared.Size.the-variants as Sz
+use Prim.Native.Nat.{ℕ}
+use mathlib.Core.Path.{_≡_, sym, ap, _∙_}
+use mathlib.Core.Bool.{Bool, true, false}
+use Rattle.bits.specs.Choice.{pick}
 use Rattle.replies.specs.declared.Reply.the-variants.{FieldPastRange}
 use Rattle.words.specs.Words.{wordOf, inRange, encodeOf}
 use Rattle.words.specs.declared.Instruction.{Instruction}
@@ -22,19 +16,3 @@ written i w h r e = ap Word e ∙ sym (ap (λ (b : Bool). pick b (Word (wordOf i
 pub refused : (i : Instruction) {t : Bool} → t ≡ false → inRange i ≡ t → Refused FieldPastRange ≡ encodeOf i
 unfolding encodeOf
 refused i h r = sym (ap (λ (b : Bool). pick b (Word (wordOf i)) (Refused FieldPastRange)) (r ∙ h))
-
--- the fields that are within their ranges by their types
-pub shift-lt : (s : Size) → shift s < 4
-shift-lt Sz.B = omega arith
-shift-lt Sz.H = omega arith
-shift-lt Sz.S = omega arith
-shift-lt Sz.D = omega arith
-
-pub shift-fits : (s : Size) → ltb (shift s) 4 ≡ true
-shift-fits s = lt-ltb (shift s) 4 (shift-lt s)
-
-pub digit-fits : (b : Bool) → ltb (digit b) 2 ≡ true
-digit-fits true = refl
-digit-fits false = refl
-
-pub ruleset ranging = (shift-fits, digit-fits, and-true, and-assoc)

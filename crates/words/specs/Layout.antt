@@ -26,8 +26,14 @@ slice lo n w = w / 2 ^ lo % 2 ^ n
 -- all fixed bits of w are as the layout has them
 abbrev pub matches : List Piece → ℕ → Bool
 matches [] w = true
-matches (fixed n v ∷ ps) w = matches ps w && eqb (slice (span ps) n w) v
+matches (fixed n v ∷ ps) w = eqb (slice (span ps) n w) v && matches ps w
 matches (field n ∷ ps) w = matches ps w
+
+-- the same with b before it, grouped as code groups b & .. & ..
+abbrev pub matchesAfter : Bool → List Piece → ℕ → Bool
+matchesAfter b [] w = b
+matchesAfter b (fixed n v ∷ ps) w = matchesAfter (b && eqb (slice (span ps) n w) v) ps w
+matchesAfter b (field n ∷ ps) w = matchesAfter b ps w
 
 -- the fields of w, from the highest down
 abbrev pub cut : List Piece → ℕ → List ℕ
@@ -50,7 +56,25 @@ place (fixed n v ∷ ps) xs = v * 2 ^ span ps + place ps xs
 place (field n ∷ ps) [] = place ps []
 place (field n ∷ ps) (x ∷ xs) = x * 2 ^ span ps + place ps xs
 
--- a function of n fields, and what it gives for the fields xs
+-- the lowest bit and the width of each field, from the highest down
+abbrev pub lows : List Piece → List ℕ
+lows [] = []
+lows (fixed n v ∷ ps) = lows ps
+lows (field n ∷ ps) = span ps ∷ lows ps
+
+abbrev pub widths : List Piece → List ℕ
+widths [] = []
+widths (fixed n v ∷ ps) = widths ps
+widths (field n ∷ ps) = n ∷ widths ps
+
+-- the layout with fields of no bits after it, up to n fields in all
+abbrev pub upTo : ℕ → List Piece → List Piece
+upTo zero ps = ps
+upTo (suc n) [] = field 0 ∷ upTo n []
+upTo (suc n) (fixed k v ∷ ps) = fixed k v ∷ upTo (suc n) ps
+upTo (suc n) (field k ∷ ps) = field k ∷ upTo n ps
+
+-- a function of n fields, and what it gives for the fields xs; one that asks none of them
 abbrev pub Takes : ℕ → Type 0 → Type 0
 Takes zero A = A
 Takes (suc n) A = ℕ → Takes n A
@@ -59,3 +83,6 @@ abbrev pub given : {A : Type 0} (n : ℕ) → Takes n A → List ℕ → A
 given zero f xs = f
 given (suc n) f [] = given n (f 0) []
 given (suc n) f (x ∷ xs) = given n (f x) xs
+
+abbrev pub always : {A : Type 0} → A → List ℕ → A
+always a xs = a

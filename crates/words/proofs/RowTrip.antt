@@ -1,0 +1,94 @@
+-- Reading a word as a row and writing a row as a word undo each other.
+use Prim.Native.Nat.{ℕ, zero, suc, _<_, _/_, _%_, _^_}
+use mathlib.Core.Path.{_≡_, refl, sym, ap, ap₂, _∙_}
+use mathlib.Core.Bool.{Bool, true, false, _&&_, false≢true}
+use mathlib.Core.List.{List, [], _∷_}
+use native.Mathlib.Nat.{mod-one}
+use native.Mathlib.Omega.{arith}
+use lib.Dec.{ltb, eqb}
+use lib.ListN.{length, getD, drop}
+use borrow.Author.Tests.{ltb-true}
+use Rattle.bits.specs.Choice.{pick}
+use Rattle.replies.specs.declared.Reply.the-variants.{FieldPastRange}
+use Rattle.words.specs.Layout.{Piece, span, slice, matches, cut, fits, place, upTo}
+use Rattle.words.specs.Layout.Piece.{fixed, field}
+use Rattle.words.specs.Words.{forms, formAt, instructionIn, decodeOf, encodeOf}
+use Rattle.words.specs.Rows.{padded, rowOf, rowLayout, rowFits, encodedAs, replyTo, rowAfter, decodedReply, decodedRow, replyWith, wordAfter, encodedReply, encodedWord}
+use Rattle.words.specs.declared.Instruction.{Instruction}
+use Rattle.words.specs.declared.Decoded.{Decoded}
+use Rattle.words.specs.declared.Decoded.the-variants as Dec
+use Rattle.words.specs.declared.Encoded.{Encoded}
+use Rattle.words.specs.declared.Encoded.the-variants as Enc
+use Rattle.words.proofs.Codec.{both, and-pair, matches-place, cut-place}
+use Rattle.words.proofs.Placing.{span-upTo, row-formed}
+use Rattle.words.proofs.Table.{all-allowed, finds}
+use Rattle.words.proofs.Fields.{read-back}
+use Rattle.words.proofs.RoundTrip.{encode-decode}
+use Rattle.words.proofs.Rows.{row-encoded}
+use Rattle.words.proofs.Examples.{whilele, example-14-read}
+
+-- fields of no bits: the same words, and a zero for each
+matches-upTo : (n : ℕ) (ps : List Piece) (w : ℕ) → matches (upTo n ps) w ≡ matches ps w
+matches-upTo zero ps w = refl
+matches-upTo (suc n) [] w = matches-upTo n [] w
+matches-upTo (suc n) (fixed k v ∷ ps) w = ap₂ (λ (s : ℕ) (b : Bool). eqb (slice s k w) v && b) (span-upTo (suc n) ps) (matches-upTo (suc n) ps w)
+matches-upTo (suc n) (field k ∷ ps) w = matches-upTo n ps w
+
+cut-upTo : (n : ℕ) (ps : List Piece) (w : ℕ) → cut (upTo n ps) w ≡ padded n (cut ps w)
+cut-upTo zero ps w = refl
+cut-upTo (suc n) [] w = ap₂ (λ (x : ℕ) (xs : List ℕ). x ∷ xs) (mod-one (w / 2 ^ span (upTo n []))) (cut-upTo n [] w)
+cut-upTo (suc n) (fixed k v ∷ ps) w = cut-upTo (suc n) ps w
+cut-upTo (suc n) (field k ∷ ps) w = ap₂ (λ (s : ℕ) (xs : List ℕ). slice s k w ∷ xs) (span-upTo n ps) (cut-upTo n ps w)
+
+-- and whether a form has a word does not ask them
+padded-allowed : (n : ℕ) (xs : List ℕ) → formAt n .allowed (padded 8 xs) ≡ formAt n .allowed xs
+padded-allowed n xs = sym (all-allowed n (padded 8 xs)) ∙ all-allowed n xs
+
+-- a word that is ours, read as a row, is written back as that word
+pub word-back : (w : ℕ) (i : Instruction) (word : ℕ) → w < 2 ^ 32 → decodeOf w ≡ Dec.Ours i → (encodedReply (rowOf i) ≡ 0) × (encodedWord (rowOf i) word ≡ w)
+word-back w i word h e =
+    let p : encodedAs (rowOf i) ≡ Enc.Word w = row-encoded i ∙ encode-decode w i h e in
+    (ap replyWith p, ap (λ (x : Encoded). wordAfter x word) p)
+
+-- a row that fits is the row of what its word is read as
+row-read : (n : ℕ) (xs : List ℕ) → n < length forms → formAt n .allowed xs ≡ true → fits (rowLayout n) xs ≡ true
+    → (i : Instruction) × (decodeOf (place (rowLayout n) xs) ≡ Dec.Ours i) × (rowOf i ≡ n ∷ xs)
+row-read n xs h a f =
+    let ps : List Piece = formAt n .layout in
+    let w : ℕ = place (rowLayout n) xs in
+    let m : matches ps w ≡ true = sym (matches-upTo 8 ps w) ∙ matches-place (rowLayout n) xs (row-formed n) f in
+    let e : padded 8 (cut ps w) ≡ xs = sym (cut-upTo 8 ps w) ∙ cut-place (rowLayout n) xs (row-formed n) f in
+    let b : formAt n .allowed (cut ps w) ≡ true = sym (padded-allowed n (cut ps w)) ∙ ap (formAt n .allowed) e ∙ a in (
+      instructionIn (formAt n) w,
+      sym (finds n w h (and-pair b m)),
+      ap (padded 9) (read-back n w h) ∙ ap (λ (ys : List ℕ). n ∷ ys) e,
+    )
+
+-- a row that is written as a word is read back as that row
+pub row-back : (row : List ℕ) (w : ℕ) (old : List ℕ) → encodedAs row ≡ Enc.Word w → (decodedReply w ≡ 0) × (decodedRow w old ≡ row)
+unfolding fits
+row-back [] w old e =
+    let z : _≡_ {A = ℕ} 0 1 = cc in
+    absurd (omega arith)
+row-back (n ∷ xs) w old e = go (rowFits (n ∷ xs)) refl
+  where
+    chosen : (b : Bool) → rowFits (n ∷ xs) ≡ b → pick b (Enc.Word (place (rowLayout n) xs)) (Enc.Refused FieldPastRange) ≡ Enc.Word w
+    chosen b h = sym (ap (λ (x : Bool). pick x (Enc.Word (place (rowLayout n) xs)) (Enc.Refused FieldPastRange)) h) ∙ e
+
+    go : (b : Bool) → rowFits (n ∷ xs) ≡ b → (decodedReply w ≡ 0) × (decodedRow w old ≡ n ∷ xs)
+    go true h =
+        let c : Enc.Word (place (rowLayout n) xs) ≡ Enc.Word w = chosen true h in
+        let v : place (rowLayout n) xs ≡ w = cc in
+        let (l, r) = both (ltb n (length forms)) (formAt n .allowed xs && fits (rowLayout n) xs) h in
+        let (a, f) = both (formAt n .allowed xs) (fits (rowLayout n) xs) r in
+        let (i, p, q) = row-read n xs (ltb-true n (length forms) l) a f in
+        let d : decodeOf w ≡ Dec.Ours i = ap decodeOf (sym v) ∙ p in
+        (ap replyTo d, ap (λ (x : Decoded). rowAfter x old) d ∙ q)
+    go false h =
+        let p : Enc.Refused FieldPastRange ≡ Enc.Word w = chosen false h in
+        let z : _≡_ {A = ℕ} 0 1 = cc in
+        absurd (omega arith)
+
+-- the paper's WHILELE pn8.s, x1, x2, x2-group
+pub example-row : (encodedReply (2 ∷ 2 ∷ 2 ∷ 0 ∷ 0 ∷ 1 ∷ 1 ∷ 1 ∷ 0 ∷ []) ≡ 0) × (encodedWord (2 ∷ 2 ∷ 2 ∷ 0 ∷ 0 ∷ 1 ∷ 1 ∷ 1 ∷ 0 ∷ []) 0 ≡ 0x25A24438)
+example-row = word-back 0x25A24438 whilele 0 (omega arith) (example-14-read .0)
