@@ -1,7 +1,7 @@
 -- An instruction and its fields: building undoes taking the fields, and the other way round.
-use Prim.Native.Nat.{ℕ, zero, suc, _+_, _<_, _/_, _^_}
+use Prim.Native.Nat.{ℕ, zero, suc, _<_, _/_, _^_}
 use mathlib.Core.Path.{_≡_, refl, sym, ap, _∙_}
-use mathlib.Core.List.{List, [], _∷_}
+use mathlib.Core.List.{_∷_}
 use lib.ListN.{length, getD}
 use mathlib.Core.Bool.{Bool, true, false}
 use native.Mathlib.Nat.{mod-lt}
@@ -12,7 +12,7 @@ use Rattle.bits.specs.Size.{shift}
 use Rattle.bits.specs.declared.Size.{Size}
 use Rattle.bits.specs.declared.Size.the-variants as Sz
 use Rattle.words.specs.Layout.{slice, cut}
-use Rattle.words.specs.Words.{Form, pfalseForm, forms, formAt, numbersOf, flag, sizeOf, conditionOf, eqBit, formOf, fieldsOf, instructionIn, levelOf}
+use Rattle.words.specs.Words.{forms, formAt, numbersOf, flag, sizeOf, conditionOf, eqBit, formOf, fieldsOf, instructionIn, levelOf}
 use Rattle.scalars.specs.While.{upward}
 use Rattle.scalars.specs.declared.Condition.{Condition}
 use Rattle.scalars.specs.declared.Condition.the-variants.{Less, LessEqual, GreaterEqual, Greater}
@@ -89,55 +89,19 @@ eq-condition false false = refl
 ruleset reading-back = (slice-digit, slice-size, lt-condition, eq-condition)
 
 -- what each form reads has the form's number, and the word's fields
-abbrev Backs : ℕ → List Form → Type 0
-Backs n [] = Unit
-Backs n (f ∷ fs) = ((w : ℕ) → numbersOf (instructionIn f w) ≡ n ∷ cut (f .layout) w) × Backs (suc n) fs
-
-backs : Backs 0 forms
-backs = (
-  λ w. simp reading-back,
-  (
-    λ w. simp reading-back,
-    (
-      λ w. simp reading-back,
-      (
-        λ w. simp reading-back,
-        (
-          λ w. simp reading-back,
-          (
-            λ w. simp reading-back,
-            (
-              λ w. simp reading-back,
-              (
-                λ w. simp reading-back,
-                (
-                  λ w. refl,
-                  (
-                    λ w. refl,
-                    (
-                      λ w. refl,
-                      tt,
-                    ),
-                  ),
-                ),
-              ),
-            ),
-          ),
-        ),
-      ),
-    ),
-  ),
-)
-
-back-in : (fs : List Form) (m n w : ℕ) → Backs m fs → n < length fs → numbersOf (instructionIn (getD fs n pfalseForm) w) ≡ (m + n) ∷ cut (getD fs n pfalseForm .layout) w
-back-in [] m n w b l = absurd (omega arith)
-back-in (f ∷ fs) m zero w b l = b .0 w ∙ ap (λ (k : ℕ). k ∷ cut (f .layout) w) (omega arith)
-back-in (f ∷ fs) m (suc n) w b l =
-    let e : suc m + n ≡ m + suc n = omega arith in
-    back-in fs (suc m) n w (b .1) (omega arith) ∙ ap (λ (k : ℕ). k ∷ cut (getD fs n pfalseForm .layout) w) e
-
 pub read-back : (n w : ℕ) → n < length forms → numbersOf (instructionIn (formAt n) w) ≡ n ∷ cut (formAt n .layout) w
-read-back n w l = back-in forms 0 n w backs l ∙ ap (λ (k : ℕ). k ∷ cut (formAt n .layout) w) (omega arith)
+read-back zero w l = simp reading-back
+read-back (suc zero) w l = simp reading-back
+read-back (suc (suc zero)) w l = simp reading-back
+read-back (suc (suc (suc zero))) w l = simp reading-back
+read-back (suc (suc (suc (suc zero)))) w l = simp reading-back
+read-back (suc (suc (suc (suc (suc zero))))) w l = simp reading-back
+read-back (suc (suc (suc (suc (suc (suc zero)))))) w l = simp reading-back
+read-back (suc (suc (suc (suc (suc (suc (suc zero))))))) w l = simp reading-back
+read-back (suc (suc (suc (suc (suc (suc (suc (suc zero)))))))) w l = refl
+read-back (suc (suc (suc (suc (suc (suc (suc (suc (suc zero))))))))) w l = refl
+read-back (suc (suc (suc (suc (suc (suc (suc (suc (suc (suc zero)))))))))) w l = refl
+read-back (suc (suc (suc (suc (suc (suc (suc (suc (suc (suc (suc n))))))))))) w l = absurd (omega arith)
 
 -- an instruction's form is one of the table
 pub number-lt : (i : Instruction) → getD (numbersOf i) 0 0 < length forms

@@ -1,6 +1,6 @@
 -- A word placed number by number, and the table of places.
 use Prim.Native.Nat.{ℕ, zero, suc, _+_, _*_, _<_, _≤_, _%_, _^_}
-use mathlib.Core.Path.{_≡_, refl, sym, ap, ap₂, _∙_}
+use mathlib.Core.Path.{_≡_, refl, sym, ap, _∙_}
 use mathlib.Core.Bool.{Bool, true, false, _&&_, not}
 use mathlib.Core.List.{List, [], _∷_}
 use native.Mathlib.Omega.{arith}
@@ -17,7 +17,7 @@ use Rattle.replies.specs.declared.Reply.the-variants.{FieldPastRange}
 use Rattle.words.specs.Layout.{Piece, span, fits, place, lows, widths, upTo}
 use Rattle.words.specs.Layout.Piece.{fixed, field}
 use Rattle.words.specs.Words.{Form, pfalseForm, forms, formAt}
-use Rattle.words.specs.Rows.{placesOf, rowLayout, rowFits, encodedAs}
+use Rattle.words.specs.Rows.{placesOf, rowLayout, writtenIn, encodedAs}
 use Rattle.words.specs.declared.Places.{Places}
 use Rattle.words.specs.declared.Encoded.the-variants.{Word, Refused}
 use Rattle.words.proofs.Codec.{wellFormed, place-lt}
@@ -102,7 +102,7 @@ map-at f (x ∷ l) (suc n) d e h = map-at f l n d e (omega arith)
 abbrev table : List Places
 table = map (λ (f : Form). placesOf (upTo 8 (f .layout))) forms
 
-pub table-at : (n : ℕ) (d : Places) → n < length forms → getD table n d ≡ placesOf (rowLayout n)
+pub table-at : (n : ℕ) (d : Places) → n < length forms → getD table n d ≡ placesOf (rowLayout (formAt n))
 table-at n d h = map-at (λ (f : Form). placesOf (upTo 8 (f .layout))) forms n d pfalseForm h
 
 -- shifts that lose nothing
@@ -131,33 +131,33 @@ formed-upTo (suc n) [] = formed-upTo n []
 formed-upTo (suc n) (fixed k v ∷ ps) = ap (λ (b : Bool). ltb v (2 ^ k) && b) (formed-upTo (suc n) ps)
 formed-upTo (suc n) (field k ∷ ps) = formed-upTo n ps
 
-pub row-wide : (n : ℕ) → span (rowLayout n) ≡ 32
+pub row-wide : (n : ℕ) → span (rowLayout (formAt n)) ≡ 32
 row-wide n = span-upTo 8 (formAt n .layout) ∙ word-wide n
 
-pub row-formed : (n : ℕ) → wellFormed (rowLayout n) ≡ true
+pub row-formed : (n : ℕ) → wellFormed (rowLayout (formAt n)) ≡ true
 row-formed n = formed-upTo 8 (formAt n .layout) ∙ well-formed n
 
 -- what the loop has of the table
-module _ (n : ℕ) {p : Places} (e : p ≡ placesOf (rowLayout n)) where
+module _ (n : ℕ) {p : Places} (e : p ≡ placesOf (rowLayout (formAt n))) where
   pub low-small : (k : ℕ) → getD (p .low) k 0 ≤ 32
   low-small k =
-      let h : getD (lows (rowLayout n)) k 0 ≤ span (rowLayout n) = low-le (rowLayout n) k in
-      let w : span (rowLayout n) ≡ 32 = row-wide n in
-      let q : getD (p .low) k 0 ≡ getD (lows (rowLayout n)) k 0 = ap (λ (x : Places). getD (x .low) k 0) e in
+      let h : getD (lows (rowLayout (formAt n))) k 0 ≤ span (rowLayout (formAt n)) = low-le (rowLayout (formAt n)) k in
+      let w : span (rowLayout (formAt n)) ≡ 32 = row-wide n in
+      let q : getD (p .low) k 0 ≡ getD (lows (rowLayout (formAt n))) k 0 = ap (λ (x : Places). getD (x .low) k 0) e in
       omega arith
 
   pub width-small : (k : ℕ) → getD (p .width) k 0 < 64
   width-small k =
-      let h : getD (widths (rowLayout n)) k 0 ≤ span (rowLayout n) = width-le (rowLayout n) k in
-      let w : span (rowLayout n) ≡ 32 = row-wide n in
-      let q : getD (p .width) k 0 ≡ getD (widths (rowLayout n)) k 0 = ap (λ (x : Places). getD (x .width) k 0) e in
+      let h : getD (widths (rowLayout (formAt n))) k 0 ≤ span (rowLayout (formAt n)) = width-le (rowLayout (formAt n)) k in
+      let w : span (rowLayout (formAt n)) ≡ 32 = row-wide n in
+      let q : getD (p .width) k 0 ≡ getD (widths (rowLayout (formAt n))) k 0 = ap (λ (x : Places). getD (x .width) k 0) e in
       omega arith
 
-  pub start-sum : (xs : List ℕ) → p .fixed + sum (p .low) xs ≡ place (rowLayout n) xs
-  start-sum xs = ap (λ (x : Places). x .fixed + sum (x .low) xs) e ∙ sym (place-sum (rowLayout n) xs)
+  pub start-sum : (xs : List ℕ) → p .fixed + sum (p .low) xs ≡ place (rowLayout (formAt n)) xs
+  start-sum xs = ap (λ (x : Places). x .fixed + sum (x .low) xs) e ∙ sym (place-sum (rowLayout (formAt n)) xs)
 
-  pub start-within : (xs : List ℕ) → within (p .width) xs ≡ fits (rowLayout n) xs
-  start-within xs = ap (λ (x : Places). within (x .width) xs) e ∙ within-fits (rowLayout n) xs
+  pub start-within : (xs : List ℕ) → within (p .width) xs ≡ fits (rowLayout (formAt n)) xs
+  start-within xs = ap (λ (x : Places). within (x .width) xs) e ∙ within-fits (rowLayout (formAt n)) xs
 
 -- a turn of the loop, and its end
 module _ (ns row : List ℕ) (k : ℕ) (h : length ns ≡ 8) (l : length row ≡ 9) where
@@ -189,32 +189,37 @@ module _ (ns row : List ℕ) (k : ℕ) (h : length ns ≡ 8) (l : length row ≡
 
 -- the row's word, or the refusal
 module _ (row : List ℕ) where
-  by-test : {b : Bool} → rowFits row ≡ b → encodedAs row ≡ pick b (Word (place (rowLayout (getD row 0 0)) (drop 1 row))) (Refused FieldPastRange)
-  by-test h = ap (λ (b : Bool). pick b (Word (place (rowLayout (getD row 0 0)) (drop 1 row))) (Refused FieldPastRange)) h
+  abbrev f : Form
+  f = formAt (getD row 0 0)
+
+  abbrev xs : List ℕ
+  xs = drop 1 row
+
+  by-form : {b : Bool} → ltb (getD row 0 0) (length forms) ≡ b → encodedAs row ≡ pick b (writtenIn f xs) (Refused FieldPastRange)
+  by-form h = ap (λ (b : Bool). pick b (writtenIn f xs) (Refused FieldPastRange)) h
 
   pub past-forms : length forms ≤ getD row 0 0 → Refused FieldPastRange ≡ encodedAs row
-  past-forms h = sym (by-test (ap (λ (b : Bool). b && (formAt (getD row 0 0) .allowed (drop 1 row) && fits (rowLayout (getD row 0 0)) (drop 1 row))) (le-ltb (getD row 0 0) (length forms) h)))
+  past-forms h = sym (by-form (le-ltb (getD row 0 0) (length forms) h))
 
-  module _ {a : Bool} (e : a ≡ formAt (getD row 0 0) .allowed (drop 1 row)) (h : getD row 0 0 < length forms) where
-    by-fits : rowFits row ≡ (a && fits (rowLayout (getD row 0 0)) (drop 1 row))
-    by-fits = ap₂ (λ (l b : Bool). l && (b && fits (rowLayout (getD row 0 0)) (drop 1 row))) (lt-ltb (getD row 0 0) (length forms) h) (sym e)
+  module _ {a : Bool} (e : a ≡ f .allowed xs) (h : getD row 0 0 < length forms) where
+    by-fields : {b : Bool} → (a && fits (rowLayout f) xs) ≡ b → encodedAs row ≡ pick b (Word (place (rowLayout f) xs)) (Refused FieldPastRange)
+    by-fields q =
+        by-form (lt-ltb (getD row 0 0) (length forms) h)
+        ∙ ap (λ (b : Bool). pick b (Word (place (rowLayout f) xs)) (Refused FieldPastRange)) (ap (λ (b : Bool). b && fits (rowLayout f) xs) (sym e) ∙ q)
 
     pub left-out : not a ≡ true → Refused FieldPastRange ≡ encodedAs row
-    left-out q = sym (by-test (by-fits ∙ ap (λ (b : Bool). b && fits (rowLayout (getD row 0 0)) (drop 1 row)) (not-true a q)))
+    left-out q = sym (by-fields (ap (λ (b : Bool). b && fits (rowLayout f) xs) (not-true a q)))
 
     module _ (q : not a ≡ false) where
-      by-fields : rowFits row ≡ fits (rowLayout (getD row 0 0)) (drop 1 row)
-      by-fields = by-fits ∙ ap (λ (b : Bool). b && fits (rowLayout (getD row 0 0)) (drop 1 row)) (not-false a q)
+      pub row-refused : fits (rowLayout f) xs ≡ false → Refused FieldPastRange ≡ encodedAs row
+      row-refused g = sym (by-fields (ap (λ (b : Bool). b && fits (rowLayout f) xs) (not-false a q) ∙ g))
 
-      pub row-refused : fits (rowLayout (getD row 0 0)) (drop 1 row) ≡ false → Refused FieldPastRange ≡ encodedAs row
-      row-refused f = sym (by-test (by-fields ∙ f))
-
-      pub row-written : {w : ℕ} → fits (rowLayout (getD row 0 0)) (drop 1 row) ≡ true → w ≡ place (rowLayout (getD row 0 0)) (drop 1 row) → Word w ≡ encodedAs row
-      row-written f p = ap Word p ∙ sym (by-test (by-fields ∙ f))
+      pub row-written : {w : ℕ} → fits (rowLayout f) xs ≡ true → w ≡ place (rowLayout f) xs → Word w ≡ encodedAs row
+      row-written g p = ap Word p ∙ sym (by-fields (ap (λ (b : Bool). b && fits (rowLayout f) xs) (not-false a q) ∙ g))
 
 pub row-lt : (n : ℕ) (row ns ms : List ℕ) (k : ℕ) {w : ℕ} → length ns ≡ 8 → length ms ≡ 8 → length row ≡ 9 → 8 ≤ k
-    → w + sum (drop k ns) (drop (k + 1) row) ≡ place (rowLayout n) (drop 1 row) → within (drop k ms) (drop (k + 1) row) ≡ fits (rowLayout n) (drop 1 row) → w < 4294967296
+    → w + sum (drop k ns) (drop (k + 1) row) ≡ place (rowLayout (formAt n)) (drop 1 row) → within (drop k ms) (drop (k + 1) row) ≡ fits (rowLayout (formAt n)) (drop 1 row) → w < 4294967296
 row-lt n row ns ms k {w} h g l j i f =
-    let e : w ≡ place (rowLayout n) (drop 1 row) = end-sum ns row k h l w j i in
-    let b : place (rowLayout n) (drop 1 row) < 2 ^ span (rowLayout n) = place-lt (rowLayout n) (drop 1 row) (row-formed n) (end-within ms row k g l j f) in
+    let e : w ≡ place (rowLayout (formAt n)) (drop 1 row) = end-sum ns row k h l w j i in
+    let b : place (rowLayout (formAt n)) (drop 1 row) < 2 ^ span (rowLayout (formAt n)) = place-lt (rowLayout (formAt n)) (drop 1 row) (row-formed n) (end-within ms row k g l j f) in
     rw (e, sym (ap (λ (m : ℕ). 2 ^ m) (row-wide n))) b

@@ -10,7 +10,7 @@ use native.Mathlib.Omega.{arith}
 use Rattle.bits.specs.Choice.{pick}
 use Rattle.replies.specs.declared.Reply.the-variants.{FieldPastRange}
 use Rattle.words.specs.Layout.{matches, cut, fits, place}
-use Rattle.words.specs.Words.{Form, pfalseForm, forms, formAt, numbersOf, formOf, fieldsOf, reads, instructionIn, refusal, readBy, decodeOf, wordOf, inRange, encodeOf}
+use Rattle.words.specs.Words.{Form, pfalseForm, forms, formAt, numbersOf, fieldsOf, reads, instructionIn, refusal, readBy, decodeOf, wordOf, inRange, encodeOf}
 use Rattle.words.specs.declared.Instruction.{Instruction}
 use Rattle.words.specs.declared.Decoded.the-variants as Dec
 use Rattle.words.specs.declared.Encoded.{Encoded}
@@ -19,7 +19,6 @@ use Rattle.words.proofs.Codec.{both, and-pair, place-cut, cut-fits, mat
 use Rattle.words.proofs.Table.{finds, word-wide, well-formed, reads-matches}
 use Rattle.words.proofs.Fields.{build-fields, read-back, number-lt}
 use Rattle.words.proofs.Reading.{tested, hit, skip, none}
-use Rattle.words.proofs.Writing.{written, refused}
 
 -- an instruction whose fields are within their ranges, written as a word, is read as itself
 pub read-written : (i : Instruction) → inRange i ≡ true → decodeOf (wordOf i) ≡ Dec.Ours i
@@ -73,29 +72,32 @@ written-read w i h e = go (outcome forms w)
         let z : _≡_ {A = ℕ} 0 1 = cc in
         absurd (omega arith)
 
--- the writer answers one of two
-encoded : (i : Instruction) (b : Bool) (e : Encoded) → inRange i ≡ b → encodeOf i ≡ e → pick b (Enc.Word (wordOf i)) (Enc.Refused FieldPastRange) ≡ e
-unfolding encodeOf
-encoded i b e h q = sym (ap (λ (t : Bool). pick t (Enc.Word (wordOf i)) (Enc.Refused FieldPastRange)) h) ∙ q
+-- an answer that is a word, and one that is the refusal
+pub taken : (b : Bool) (x : Encoded) (w : ℕ) → pick b x (Enc.Refused FieldPastRange) ≡ Enc.Word w → (b ≡ true) × (x ≡ Enc.Word w)
+taken true x w e = (refl, e)
+taken false x w e =
+    let z : _≡_ {A = ℕ} 0 1 = cc in
+    absurd (omega arith)
+
+turned-down : (b : Bool) (w : ℕ) → pick b (Enc.Word w) (Enc.Refused FieldPastRange) ≡ Enc.Refused FieldPastRange → b ≡ false
+turned-down true w e =
+    let z : _≡_ {A = ℕ} 0 1 = cc in
+    absurd (omega arith)
+turned-down false w e = refl
 
 -- the same two of the answers
 pub decode-encode : (i : Instruction) (w : ℕ) → encodeOf i ≡ Enc.Word w → decodeOf w ≡ Dec.Ours i
-decode-encode i w e = go (inRange i) refl
-  where
-    go : (b : Bool) → inRange i ≡ b → decodeOf w ≡ Dec.Ours i
-    go true r =
-        let p : Enc.Word (wordOf i) ≡ Enc.Word w = encoded i true (Enc.Word w) r e in
-        let q : wordOf i ≡ w = cc in
-        ap decodeOf (sym q) ∙ read-written i r
-    go false r =
-        let p : Enc.Refused FieldPastRange ≡ Enc.Word w = encoded i false (Enc.Word w) r e in
-        let z : _≡_ {A = ℕ} 0 1 = cc in
-        absurd (omega arith)
+unfolding encodeOf
+decode-encode i w e =
+    let (r, p) = taken (inRange i) (Enc.Word (wordOf i)) w e in
+    let q : wordOf i ≡ w = cc in
+    ap decodeOf (sym q) ∙ read-written i r
 
 pub encode-decode : (w : ℕ) (i : Instruction) → w < 2 ^ 32 → decodeOf w ≡ Dec.Ours i → encodeOf i ≡ Enc.Word w
+unfolding encodeOf
 encode-decode w i h e =
     let (r, q) = written-read w i h e in
-    sym (written i w r refl (sym q))
+    ap₂ (λ (b : Bool) (n : ℕ). pick b (Enc.Word n) (Enc.Refused FieldPastRange)) r q
 
 -- no two forms share a word
 pub one-form : (m n w : ℕ) → m < length forms → n < length forms → reads (formAt m) w ≡ true → reads (formAt n) w ≡ true → m ≡ n
@@ -120,11 +122,5 @@ refused-read w h = (no-word, only (outcome forms w))
 
 -- an instruction is refused exactly when a field is past its range
 pub refused-written : (i : Instruction) → (encodeOf i ≡ Enc.Refused FieldPastRange) ↔ (inRange i ≡ false)
-refused-written i = (past (inRange i) refl, λ h. sym (refused i h refl))
-  where
-    past : (b : Bool) → inRange i ≡ b → encodeOf i ≡ Enc.Refused FieldPastRange → inRange i ≡ false
-    past true h e =
-        let p : Enc.Word (wordOf i) ≡ Enc.Refused FieldPastRange = encoded i true (Enc.Refused FieldPastRange) h e in
-        let z : _≡_ {A = ℕ} 0 1 = cc in
-        absurd (omega arith)
-    past false h e = h
+unfolding encodeOf
+refused-written i = (turned-down (inRange i) (wordOf i), λ h. ap (λ (b : Bool). pick b (Enc.Word (wordOf i)) (Enc.Refused FieldPastRange)) h)

@@ -1,20 +1,20 @@
 -- Reading a word as a row and writing a row as a word undo each other.
-use Prim.Native.Nat.{ℕ, zero, suc, _<_, _/_, _%_, _^_}
+use Prim.Native.Nat.{ℕ, zero, suc, _<_, _/_, _^_}
 use mathlib.Core.Path.{_≡_, refl, sym, ap, ap₂, _∙_}
-use mathlib.Core.Bool.{Bool, true, false, _&&_, false≢true}
+use mathlib.Core.Bool.{Bool, true, _&&_}
 use mathlib.Core.List.{List, [], _∷_}
 use native.Mathlib.Nat.{mod-one}
 use native.Mathlib.Omega.{arith}
 use lib.Dec.{ltb, eqb}
 use lib.ListN.{length, getD, drop}
 use borrow.Author.Tests.{ltb-true}
-use Rattle.bits.specs.Choice.{pick}
-use Rattle.replies.specs.declared.Reply.the-variants.{FieldPastRange}
 use Rattle.words.specs.Layout.{Piece, span, slice, matches, cut, fits, place, upTo}
 use Rattle.words.specs.Layout.Piece.{fixed, field}
-use Rattle.words.specs.Words.{forms, formAt, instructionIn, decodeOf, encodeOf}
-use Rattle.words.specs.Rows.{padded, rowOf, rowLayout, rowFits, encodedAs, replyTo, rowAfter, decodedReply, decodedRow, replyWith, wordAfter, encodedReply, encodedWord}
+use Rattle.words.specs.Words.{forms, formAt, instructionIn, decodeOf}
+use Rattle.words.specs.Rows.{padded, rowOf, rowLayout, writtenIn, encodedAs, replyTo, rowAfter, decodedReply, decodedRow, replyWith, wordAfter, encodedReply, encodedWord}
+use Rattle.words.specs.declared.Target.the-variants.{One, Pair, Counter}
 use Rattle.words.specs.declared.Instruction.{Instruction}
+use Rattle.words.specs.declared.Instruction.the-variants.{While, Saturating, IncDec, Cntp, CntpCounter, Pnext, Pfirst, Ptest, Pfalse}
 use Rattle.words.specs.declared.Decoded.{Decoded}
 use Rattle.words.specs.declared.Decoded.the-variants as Dec
 use Rattle.words.specs.declared.Encoded.{Encoded}
@@ -22,8 +22,8 @@ use Rattle.words.specs.declared.Encoded.the-variants as Enc
 use Rattle.words.proofs.Codec.{both, and-pair, matches-place, cut-place}
 use Rattle.words.proofs.Placing.{span-upTo, row-formed}
 use Rattle.words.proofs.Table.{all-allowed, finds}
-use Rattle.words.proofs.Fields.{read-back}
-use Rattle.words.proofs.RoundTrip.{encode-decode}
+use Rattle.words.proofs.Fields.{build-fields, read-back}
+use Rattle.words.proofs.RoundTrip.{taken, encode-decode}
 use Rattle.words.proofs.Rows.{row-encoded}
 use Rattle.words.proofs.Examples.{whilele, example-14-read}
 
@@ -50,14 +50,28 @@ word-back w i word h e =
     let p : encodedAs (rowOf i) ≡ Enc.Word w = row-encoded i ∙ encode-decode w i h e in
     (ap replyWith p, ap (λ (x : Encoded). wordAfter x word) p)
 
+-- an instruction's row builds it
+pub row-instruction : (i : Instruction) → formAt (getD (rowOf i) 0 0) .build (drop 1 (rowOf i)) ≡ i
+row-instruction (While c u (One w pd) s rn rm) = build-fields (While c u (One w pd) s rn rm)
+row-instruction (While c u (Pair pd) s rn rm) = build-fields (While c u (Pair pd) s rn rm)
+row-instruction (While c u (Counter f pnd) s rn rm) = build-fields (While c u (Counter f pnd) s rn rm)
+row-instruction (Saturating d u w s pm rdn) = build-fields (Saturating d u w s pm rdn)
+row-instruction (IncDec d s pm rdn) = build-fields (IncDec d s pm rdn)
+row-instruction (Cntp s pg pn rd) = build-fields (Cntp s pg pn rd)
+row-instruction (CntpCounter f s pnn rd) = build-fields (CntpCounter f s pnn rd)
+row-instruction (Pnext s pv pdn) = build-fields (Pnext s pv pdn)
+row-instruction (Pfirst pg pdn) = refl
+row-instruction (Ptest pg pn) = refl
+row-instruction (Pfalse pd) = refl
+
 -- a row that fits is the row of what its word is read as
-row-read : (n : ℕ) (xs : List ℕ) → n < length forms → formAt n .allowed xs ≡ true → fits (rowLayout n) xs ≡ true
-    → (i : Instruction) × (decodeOf (place (rowLayout n) xs) ≡ Dec.Ours i) × (rowOf i ≡ n ∷ xs)
+row-read : (n : ℕ) (xs : List ℕ) → n < length forms → formAt n .allowed xs ≡ true → fits (rowLayout (formAt n)) xs ≡ true
+    → (i : Instruction) × (decodeOf (place (rowLayout (formAt n)) xs) ≡ Dec.Ours i) × (rowOf i ≡ n ∷ xs)
 row-read n xs h a f =
     let ps : List Piece = formAt n .layout in
-    let w : ℕ = place (rowLayout n) xs in
-    let m : matches ps w ≡ true = sym (matches-upTo 8 ps w) ∙ matches-place (rowLayout n) xs (row-formed n) f in
-    let e : padded 8 (cut ps w) ≡ xs = sym (cut-upTo 8 ps w) ∙ cut-place (rowLayout n) xs (row-formed n) f in
+    let w : ℕ = place (rowLayout (formAt n)) xs in
+    let m : matches ps w ≡ true = sym (matches-upTo 8 ps w) ∙ matches-place (rowLayout (formAt n)) xs (row-formed n) f in
+    let e : padded 8 (cut ps w) ≡ xs = sym (cut-upTo 8 ps w) ∙ cut-place (rowLayout (formAt n)) xs (row-formed n) f in
     let b : formAt n .allowed (cut ps w) ≡ true = sym (padded-allowed n (cut ps w)) ∙ ap (formAt n .allowed) e ∙ a in (
       instructionIn (formAt n) w,
       sym (finds n w h (and-pair b m)),
@@ -70,24 +84,14 @@ unfolding fits
 row-back [] w old e =
     let z : _≡_ {A = ℕ} 0 1 = cc in
     absurd (omega arith)
-row-back (n ∷ xs) w old e = go (rowFits (n ∷ xs)) refl
-  where
-    chosen : (b : Bool) → rowFits (n ∷ xs) ≡ b → pick b (Enc.Word (place (rowLayout n) xs)) (Enc.Refused FieldPastRange) ≡ Enc.Word w
-    chosen b h = sym (ap (λ (x : Bool). pick x (Enc.Word (place (rowLayout n) xs)) (Enc.Refused FieldPastRange)) h) ∙ e
-
-    go : (b : Bool) → rowFits (n ∷ xs) ≡ b → (decodedReply w ≡ 0) × (decodedRow w old ≡ n ∷ xs)
-    go true h =
-        let c : Enc.Word (place (rowLayout n) xs) ≡ Enc.Word w = chosen true h in
-        let v : place (rowLayout n) xs ≡ w = cc in
-        let (l, r) = both (ltb n (length forms)) (formAt n .allowed xs && fits (rowLayout n) xs) h in
-        let (a, f) = both (formAt n .allowed xs) (fits (rowLayout n) xs) r in
-        let (i, p, q) = row-read n xs (ltb-true n (length forms) l) a f in
-        let d : decodeOf w ≡ Dec.Ours i = ap decodeOf (sym v) ∙ p in
-        (ap replyTo d, ap (λ (x : Decoded). rowAfter x old) d ∙ q)
-    go false h =
-        let p : Enc.Refused FieldPastRange ≡ Enc.Word w = chosen false h in
-        let z : _≡_ {A = ℕ} 0 1 = cc in
-        absurd (omega arith)
+row-back (n ∷ xs) w old e =
+    let (l, c) = taken (ltb n (length forms)) (writtenIn (formAt n) xs) w e in
+    let (t, u) = taken (formAt n .allowed xs && fits (rowLayout (formAt n)) xs) (Enc.Word (place (rowLayout (formAt n)) xs)) w c in
+    let v : place (rowLayout (formAt n)) xs ≡ w = cc in
+    let (a, f) = both (formAt n .allowed xs) (fits (rowLayout (formAt n)) xs) t in
+    let (i, p, q) = row-read n xs (ltb-true n (length forms) l) a f in
+    let d : decodeOf w ≡ Dec.Ours i = ap decodeOf (sym v) ∙ p in
+    (ap replyTo d, ap (λ (x : Decoded). rowAfter x old) d ∙ q)
 
 -- the paper's WHILELE pn8.s, x1, x2, x2-group
 pub example-row : (encodedReply (2 ∷ 2 ∷ 2 ∷ 0 ∷ 0 ∷ 1 ∷ 1 ∷ 1 ∷ 0 ∷ []) ≡ 0) × (encodedWord (2 ∷ 2 ∷ 2 ∷ 0 ∷ 0 ∷ 1 ∷ 1 ∷ 1 ∷ 0 ∷ []) 0 ≡ 0x25A24438)

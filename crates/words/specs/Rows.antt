@@ -1,6 +1,6 @@
 -- Instructions as rows of nine numbers, and how a row is written as a word.
 use Prim.Native.Nat.{ℕ, zero, suc}
-use mathlib.Core.Bool.{Bool, _&&_}
+use mathlib.Core.Bool.{_&&_}
 use mathlib.Core.List.{List, [], _∷_}
 use lib.Dec.{ltb}
 use lib.ListN.{length, getD, drop}
@@ -8,7 +8,7 @@ use Rattle.bits.specs.Choice.{pick}
 use Rattle.replies.specs.Reply.{numberOf}
 use Rattle.replies.specs.declared.Reply.the-variants.{FieldPastRange}
 use Rattle.words.specs.Layout.{Piece, fits, place, lows, widths, upTo}
-use Rattle.words.specs.Words.{forms, formAt, numbersOf, decodeOf}
+use Rattle.words.specs.Words.{Form, forms, formAt, numbersOf, decodeOf}
 use Rattle.words.specs.declared.Instruction.{Instruction}
 use Rattle.words.specs.declared.Places.{Places}
 use Rattle.words.specs.declared.Decoded.{Decoded}
@@ -27,16 +27,16 @@ abbrev pub rowOf : Instruction → List ℕ
 rowOf i = padded 9 (numbersOf i)
 
 -- a form's layout as a row has it: eight fields, those after the form's own of no bits
-abbrev pub rowLayout : ℕ → List Piece
-rowLayout n = upTo 8 (formAt n .layout)
+abbrev pub rowLayout : Form → List Piece
+rowLayout f = upTo 8 (f .layout)
 
--- a row's form is one of the table, has a word with its fields, and each of them is within its range
-abbrev pub rowFits : List ℕ → Bool
-rowFits row = ltb (getD row 0 0) (length forms) && (formAt (getD row 0 0) .allowed (drop 1 row) && fits (rowLayout (getD row 0 0)) (drop 1 row))
+-- how eight numbers are written as the fields of a form
+abbrev pub writtenIn : Form → List ℕ → Encoded
+writtenIn f xs = pick (f .allowed xs && fits (rowLayout f) xs) (Word (place (rowLayout f) xs)) (Refused FieldPastRange)
 
--- how a row is written
+-- how a row is written: as the form that its first number is, if it is one of the table
 abbrev pub encodedAs : List ℕ → Encoded
-encodedAs row = pick (rowFits row) (Word (place (rowLayout (getD row 0 0)) (drop 1 row))) (Refused FieldPastRange)
+encodedAs row = pick (ltb (getD row 0 0) (length forms)) (writtenIn (formAt (getD row 0 0)) (drop 1 row)) (Refused FieldPastRange)
 
 -- what the code keeps of a layout
 abbrev pub placesOf : List Piece → Places

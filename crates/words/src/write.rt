@@ -2,6 +2,7 @@
 use super::Encoded;
 use super::Instruction;
 use super::Places;
+use super::row::row_of;
 use replies::Reply;
 ghost use mathlib.Core.Path.{_≡_};
 ghost use Prim.Native.Nat.{_*_, _^_, _<_, _≤_};
@@ -85,7 +86,7 @@ const TABLE: [Places; FORMS] = [
 
 fn places(form: usize) -> Places
     requires { ⌜ form < length forms ⌝ }
-    ensures { λ r. ⌜ r ≡ placesOf (rowLayout form) ⌝ }
+    ensures { λ r. ⌜ r ≡ placesOf (rowLayout (formAt form)) ⌝ }
 {
     TABLE[form]
 }
@@ -142,5 +143,5 @@ pub fn word_of(row: [u8; 9]) -> Encoded
 pub fn encode(i: Instruction) -> Encoded
     ensures { λ r. ⌜ r ≡ encodeOf i ⌝ }
 {
-    word_of(super::row::row_of(i))
+    word_of(row_of(i))
 }

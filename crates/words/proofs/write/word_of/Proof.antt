@@ -4,6 +4,7 @@ use mathlib.Core.Path.{_≡_}
 use lib.ListN.{drop}
 use borrow.Author.Needs.{needs}
 use Rattle.words.specs.Layout.{fits, place}
+use Rattle.words.specs.Words.{formAt}
 use Rattle.words.specs.Rows.{rowLayout}
 use Rattle.words.proofs.Placing.{sum, within, low-small, width-small, start-sum, start-within, more-sum, more-within, too-wide, end-sum, end-within, past-forms, left-out, row-refused, row-written, row-lt}
 use Rattle.words.proofs.write.word_of.Statement.{statement}
@@ -13,8 +14,8 @@ abbrev Inv-loop : tie.InvT-loop
 Inv-loop row form low width word₀ k₀ word k =
     (k ≤ 8)
     × (word < 2 ^ 32 + k * 2 ^ 40)
-    × (word + sum (drop k low) (drop (k + 1) row) ≡ place (rowLayout form) (drop 1 row))
-    × (within (drop k width) (drop (k + 1) row) ≡ fits (rowLayout form) (drop 1 row))
+    × (word + sum (drop k low) (drop (k + 1) row) ≡ place (rowLayout (formAt form)) (drop 1 row))
+    × (within (drop k width) (drop (k + 1) row) ≡ fits (rowLayout (formAt form)) (drop 1 row))
 
 abbrev μ-loop : tie.MeasureT-loop
 μ-loop row form low width word₀ k₀ word k = 8 - k
