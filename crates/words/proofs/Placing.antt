@@ -18,7 +18,7 @@ use Rattle.words.specs.Layout.{Piece, span, fits, place, lows, widths, u
 use Rattle.words.specs.Layout.Piece.{fixed, field}
 use Rattle.words.specs.Words.{Form, pfalseForm, forms, formAt}
 use Rattle.words.specs.Rows.{placesOf, rowLayout, writtenIn, encodedAs}
-use Rattle.words.specs.declared.Places.{Places}
+use Rattle.words.specs.declared.write.Places.{Places}
 use Rattle.words.specs.declared.Encoded.the-variants.{Word, Refused}
 use Rattle.words.proofs.Codec.{wellFormed, place-lt}
 use Rattle.words.proofs.Table.{word-wide, well-formed}

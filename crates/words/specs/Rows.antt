@@ -10,7 +10,7 @@ use Rattle.replies.specs.declared.Reply.the-variants.{FieldPastRange}
 use Rattle.words.specs.Layout.{Piece, fits, place, lows, widths, upTo}
 use Rattle.words.specs.Words.{Form, forms, formAt, numbersOf, decodeOf}
 use Rattle.words.specs.declared.Instruction.{Instruction}
-use Rattle.words.specs.declared.Places.{Places}
+use Rattle.words.specs.declared.write.Places.{Places}
 use Rattle.words.specs.declared.Decoded.{Decoded}
 use Rattle.words.specs.declared.Decoded.the-variants as Dec
 use Rattle.words.specs.declared.Encoded.{Encoded}

@@ -9,7 +9,6 @@ mod read;
 mod row;
 mod write;
 
-pub use read::condition_of;
 pub use read::decode;
 pub use read::size_of;
 pub use row::row_of;
@@ -80,13 +79,6 @@ pub enum Instruction {
 pub enum Decoded {
     Ours(Instruction),
     Refused(Reply),
-}
-
-// The fixed bits of a form's word, and the lowest bit and width of each of its fields; a row's numbers past them have width 0.
-pub struct Places {
-    pub fixed: u32,
-    pub low: [u8; 8],
-    pub width: [u8; 8],
 }
 
 // How an instruction is written.

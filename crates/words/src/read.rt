@@ -23,7 +23,7 @@ pub fn size_of(n: u32) -> Size
 }
 
 // By (lt, eq).
-pub fn condition_of(lt: bool, eq: bool) -> Condition
+fn condition_of(lt: bool, eq: bool) -> Condition
     ensures { λ r. ⌜ r ≡ conditionOf lt eq ⌝ }
 {
     if lt {

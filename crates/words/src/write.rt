@@ -1,7 +1,6 @@
 // Writing a word by the table of the forms' bits.
 use super::Encoded;
 use super::Instruction;
-use super::Places;
 use super::row::row_of;
 use replies::Reply;
 ghost use mathlib.Core.Path.{_≡_};
@@ -10,6 +9,13 @@ ghost use lib.Dec.{ltb};
 ghost use lib.ListN.{length, drop};
 ghost use Rattle.words.specs.Words.{forms, formAt, encodeOf};
 ghost use Rattle.words.specs.Rows.{encodedAs, rowLayout, placesOf};
+
+// The fixed bits of a form's word, and the lowest bit and width of each of its fields; a row's numbers past them have width 0.
+struct Places {
+    fixed: u32,
+    low: [u8; 8],
+    width: [u8; 8],
+}
 
 // How many forms there are.
 const FORMS: usize = 11;
@@ -84,7 +90,7 @@ const TABLE: [Places; FORMS] = [
     },
 ];
 
-fn places(form: usize) -> Places
+fn places_of(form: usize) -> Places
     requires { ⌜ form < length forms ⌝ }
     ensures { λ r. ⌜ r ≡ placesOf (rowLayout (formAt form)) ⌝ }
 {
@@ -125,7 +131,7 @@ pub fn word_of(row: [u8; 9]) -> Encoded
     if !is_allowed(form, row) {
         return Encoded::Refused(Reply::FieldPastRange);
     }
-    let p = places(form);
+    let p = places_of(form);
     let low = p.low;
     let width = p.width;
     let mut word = p.fixed as u64;

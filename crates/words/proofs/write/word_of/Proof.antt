@@ -35,8 +35,8 @@ is-allowed-requires c κs = search needs
 returns-2 : tie.Need-returns-2 Inv-loop μ-loop
 returns-2 c = search left-out depth 6
 
-places-requires : tie.Need-places-requires Inv-loop μ-loop
-places-requires c κs = search needs
+places-of-requires : tie.Need-places-of-requires Inv-loop μ-loop
+places-of-requires c κs = search needs
 
 cast-word : tie.Need-cast-word Inv-loop μ-loop
 cast-word c = search needs
@@ -94,7 +94,7 @@ word-of-spec =
     returns
     is-allowed-requires
     returns-2
-    places-requires
+    places-of-requires
     cast-word
     loop-holds
     add-x
