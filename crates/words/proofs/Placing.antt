@@ -63,25 +63,15 @@ place-sum (field n ∷ ps) [] = omega arith
 place-sum (field n ∷ ps) (x ∷ xs) = other-more (x * 2 ^ span ps) (place ps xs) (place ps []) (sum (lows ps) xs) (place-sum ps xs)
 
 -- places and widths are within the layout
-pub low-le : (ps : List Piece) (k : ℕ) → getD (lows ps) k 0 ≤ span ps
-low-le [] k = omega arith
-low-le (fixed n v ∷ ps) k =
-    let h : getD (lows ps) k 0 ≤ span ps = low-le ps k in
-    omega arith
-low-le (field n ∷ ps) zero = omega arith
-low-le (field n ∷ ps) (suc k) =
-    let h : getD (lows ps) k 0 ≤ span ps = low-le ps k in
-    omega arith
-
-pub width-le : (ps : List Piece) (k : ℕ) → getD (widths ps) k 0 ≤ span ps
-width-le [] k = omega arith
-width-le (fixed n v ∷ ps) k =
-    let h : getD (widths ps) k 0 ≤ span ps = width-le ps k in
-    omega arith
-width-le (field n ∷ ps) zero = omega arith
-width-le (field n ∷ ps) (suc k) =
-    let h : getD (widths ps) k 0 ≤ span ps = width-le ps k in
-    omega arith
+place-le : (ps : List Piece) (k : ℕ) → (getD (lows ps) k 0 ≤ span ps) × (getD (widths ps) k 0 ≤ span ps)
+place-le [] k = (omega arith, omega arith)
+place-le (fixed n v ∷ ps) k =
+    let (l, w) = place-le ps k in
+    (omega arith, omega arith)
+place-le (field n ∷ ps) zero = (omega arith, omega arith)
+place-le (field n ∷ ps) (suc k) =
+    let (l, w) = place-le ps k in
+    (omega arith, omega arith)
 
 -- one turn
 module _ (ns row : List ℕ) (k : ℕ) (h : k < length ns) (l : k + 1 < length row) where
@@ -99,11 +89,9 @@ map-at f [] n d e h = absurd (omega arith)
 map-at f (x ∷ l) zero d e h = refl
 map-at f (x ∷ l) (suc n) d e h = map-at f l n d e (omega arith)
 
-abbrev table : List Places
-table = map (λ (f : Form). placesOf (upTo 8 (f .layout))) forms
-
-pub table-at : (n : ℕ) (d : Places) → n < length forms → getD table n d ≡ placesOf (rowLayout (formAt n))
-table-at n d h = map-at (λ (f : Form). placesOf (upTo 8 (f .layout))) forms n d pfalseForm h
+-- every form's places, in the order of the table: that the code's are the same is computed at `places_of`
+pub table-at : (n : ℕ) (d : Places) → n < length forms → getD (map (λ (f : Form). placesOf (rowLayout f)) forms) n d ≡ placesOf (rowLayout (formAt n))
+table-at n d h = map-at (λ (f : Form). placesOf (rowLayout f)) forms n d pfalseForm h
 
 -- shifts that lose nothing
 pub shifted : (x low : ℕ) → x < 256 → low ≤ 32 → (x * 2 ^ low % 2 ^ 64 ≡ x * 2 ^ low) × (x * 2 ^ low % 2 ^ 64 < 2 ^ 40)
@@ -139,25 +127,28 @@ row-formed n = formed-upTo 8 (formAt n .layout) ∙ well-formed n
 
 -- what the loop has of the table
 module _ (n : ℕ) {p : Places} (e : p ≡ placesOf (rowLayout (formAt n))) where
+  abbrev ps : List Piece
+  ps = rowLayout (formAt n)
+
   pub low-small : (k : ℕ) → getD (p .low) k 0 ≤ 32
   low-small k =
-      let h : getD (lows (rowLayout (formAt n))) k 0 ≤ span (rowLayout (formAt n)) = low-le (rowLayout (formAt n)) k in
-      let w : span (rowLayout (formAt n)) ≡ 32 = row-wide n in
-      let q : getD (p .low) k 0 ≡ getD (lows (rowLayout (formAt n))) k 0 = ap (λ (x : Places). getD (x .low) k 0) e in
+      let (l, w) = place-le ps k in
+      let s : span ps ≡ 32 = row-wide n in
+      let q : getD (p .low) k 0 ≡ getD (lows ps) k 0 = ap (λ (x : Places). getD (x .low) k 0) e in
       omega arith
 
   pub width-small : (k : ℕ) → getD (p .width) k 0 < 64
   width-small k =
-      let h : getD (widths (rowLayout (formAt n))) k 0 ≤ span (rowLayout (formAt n)) = width-le (rowLayout (formAt n)) k in
-      let w : span (rowLayout (formAt n)) ≡ 32 = row-wide n in
-      let q : getD (p .width) k 0 ≡ getD (widths (rowLayout (formAt n))) k 0 = ap (λ (x : Places). getD (x .width) k 0) e in
+      let (l, w) = place-le ps k in
+      let s : span ps ≡ 32 = row-wide n in
+      let q : getD (p .width) k 0 ≡ getD (widths ps) k 0 = ap (λ (x : Places). getD (x .width) k 0) e in
       omega arith
 
-  pub start-sum : (xs : List ℕ) → p .fixed + sum (p .low) xs ≡ place (rowLayout (formAt n)) xs
-  start-sum xs = ap (λ (x : Places). x .fixed + sum (x .low) xs) e ∙ sym (place-sum (rowLayout (formAt n)) xs)
+  pub start-sum : (xs : List ℕ) → p .fixed + sum (p .low) xs ≡ place ps xs
+  start-sum xs = ap (λ (x : Places). x .fixed + sum (x .low) xs) e ∙ sym (place-sum ps xs)
 
-  pub start-within : (xs : List ℕ) → within (p .width) xs ≡ fits (rowLayout (formAt n)) xs
-  start-within xs = ap (λ (x : Places). within (x .width) xs) e ∙ within-fits (rowLayout (formAt n)) xs
+  pub start-within : (xs : List ℕ) → within (p .width) xs ≡ fits ps xs
+  start-within xs = ap (λ (x : Places). within (x .width) xs) e ∙ within-fits ps xs
 
 -- a turn of the loop, and its end
 module _ (ns row : List ℕ) (k : ℕ) (h : length ns ≡ 8) (l : length row ≡ 9) where

@@ -25,7 +25,6 @@ use Rattle.words.proofs.Table.{all-allowed, finds}
 use Rattle.words.proofs.Fields.{build-fields, read-back}
 use Rattle.words.proofs.RoundTrip.{taken, encode-decode}
 use Rattle.words.proofs.Rows.{row-encoded}
-use Rattle.words.proofs.Examples.{whilele, example-14-read}
 
 -- fields of no bits: the same words, and a zero for each
 matches-upTo : (n : ℕ) (ps : List Piece) (w : ℕ) → matches (upTo n ps) w ≡ matches ps w
@@ -92,7 +91,3 @@ row-back (n ∷ xs) w old e =
     let (i, p, q) = row-read n xs (ltb-true n (length forms) l) a f in
     let d : decodeOf w ≡ Dec.Ours i = ap decodeOf (sym v) ∙ p in
     (ap replyTo d, ap (λ (x : Decoded). rowAfter x old) d ∙ q)
-
--- the paper's WHILELE pn8.s, x1, x2, x2-group
-pub example-row : (encodedReply (2 ∷ 2 ∷ 2 ∷ 0 ∷ 0 ∷ 1 ∷ 1 ∷ 1 ∷ 0 ∷ []) ≡ 0) × (encodedWord (2 ∷ 2 ∷ 2 ∷ 0 ∷ 0 ∷ 1 ∷ 1 ∷ 1 ∷ 0 ∷ []) 0 ≡ 0x25A24438)
-example-row = word-back 0x25A24438 whilele 0 (omega arith) (example-14-read .0)
