@@ -14,10 +14,11 @@ use lib.Seq.{drop-cons}
 use borrow.Author.Tests.{le-ltb, lt-ltb, not-true, not-false}
 use Rattle.bits.specs.Choice.{pick}
 use Rattle.replies.specs.declared.Reply.the-variants.{FieldPastRange}
-use Rattle.words.specs.Layout.{Piece, span, fits, place, lows, widths, upTo}
+use Rattle.words.specs.Layout.{Piece, span, fits, place, upTo}
 use Rattle.words.specs.Layout.Piece.{fixed, field}
 use Rattle.words.specs.Words.{Form, pfalseForm, forms, formAt}
-use Rattle.words.specs.Rows.{placesOf, rowLayout, writtenIn, encodedAs}
+use Rattle.words.specs.Rows.{rowLayout, writtenIn, encodedAs}
+use Rattle.words.specs.Inside.{lows, widths, placesOf}
 use Rattle.words.specs.declared.write.Places.{Places}
 use Rattle.words.specs.declared.Encoded.the-variants.{Word, Refused}
 use Rattle.words.proofs.Codec.{wellFormed, place-lt}

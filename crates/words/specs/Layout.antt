@@ -29,12 +29,6 @@ matches [] w = true
 matches (fixed n v ∷ ps) w = eqb (slice (span ps) n w) v && matches ps w
 matches (field n ∷ ps) w = matches ps w
 
--- the same with b before it, grouped as code groups b & .. & ..
-abbrev pub matchesAfter : Bool → List Piece → ℕ → Bool
-matchesAfter b [] w = b
-matchesAfter b (fixed n v ∷ ps) w = matchesAfter (b && eqb (slice (span ps) n w) v) ps w
-matchesAfter b (field n ∷ ps) w = matchesAfter b ps w
-
 -- the fields of w, from the highest down
 abbrev pub cut : List Piece → ℕ → List ℕ
 cut [] w = []
@@ -55,17 +49,6 @@ place [] xs = 0
 place (fixed n v ∷ ps) xs = v * 2 ^ span ps + place ps xs
 place (field n ∷ ps) [] = place ps []
 place (field n ∷ ps) (x ∷ xs) = x * 2 ^ span ps + place ps xs
-
--- the lowest bit and the width of each field, from the highest down
-abbrev pub lows : List Piece → List ℕ
-lows [] = []
-lows (fixed n v ∷ ps) = lows ps
-lows (field n ∷ ps) = span ps ∷ lows ps
-
-abbrev pub widths : List Piece → List ℕ
-widths [] = []
-widths (fixed n v ∷ ps) = widths ps
-widths (field n ∷ ps) = n ∷ widths ps
 
 -- the layout with fields of no bits after it, up to n fields in all
 abbrev pub upTo : ℕ → List Piece → List Piece

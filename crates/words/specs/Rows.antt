@@ -7,10 +7,9 @@ use lib.ListN.{length, getD, drop}
 use Rattle.bits.specs.Choice.{pick}
 use Rattle.replies.specs.Reply.{numberOf}
 use Rattle.replies.specs.declared.Reply.the-variants.{FieldPastRange}
-use Rattle.words.specs.Layout.{Piece, fits, place, lows, widths, upTo}
+use Rattle.words.specs.Layout.{Piece, fits, place, upTo}
 use Rattle.words.specs.Words.{Form, forms, formAt, numbersOf, decodeOf}
 use Rattle.words.specs.declared.Instruction.{Instruction}
-use Rattle.words.specs.declared.write.Places.{Places}
 use Rattle.words.specs.declared.Decoded.{Decoded}
 use Rattle.words.specs.declared.Decoded.the-variants as Dec
 use Rattle.words.specs.declared.Encoded.{Encoded}
@@ -37,10 +36,6 @@ writtenIn f xs = pick (f .allowed xs && fits (rowLayout f) xs) (Word (place (row
 -- how a row is written: as the form that its first number is, if it is one of the table
 abbrev pub encodedAs : List ℕ → Encoded
 encodedAs row = pick (ltb (getD row 0 0) (length forms)) (writtenIn (formAt (getD row 0 0)) (drop 1 row)) (Refused FieldPastRange)
-
--- what the code keeps of a layout
-abbrev pub placesOf : List Piece → Places
-placesOf ps = record { fixed = place ps []; low = lows ps; width = widths ps }
 
 -- the reply to a word, and the row that it leaves: the instruction's, or for a refused word the row as it was
 abbrev pub replyTo : Decoded → ℕ

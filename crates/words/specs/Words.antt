@@ -10,7 +10,7 @@ use Rattle.bits.specs.declared.Size.{Size}
 use Rattle.bits.specs.declared.Size.the-variants as Sz
 use Rattle.replies.specs.declared.Reply.{Reply}
 use Rattle.replies.specs.declared.Reply.the-variants.{UnknownWord, FieldPastRange}
-use Rattle.words.specs.Layout.{Piece, upper, matches, matchesAfter, cut, fits, place, given, always}
+use Rattle.words.specs.Layout.{Piece, upper, matches, cut, fits, place, given, always}
 use Rattle.words.specs.Layout.Piece.{fixed}
 use Rattle.words.specs.Fields.{opcode, size, sf, U, lt, eq, D, vl, Rm, Rn, Rd, Rdn, Pd, Pg, Pm, Pn, Pv, Pdn, PNd, PNn}
 use Rattle.scalars.specs.While.{upward}
@@ -181,10 +181,6 @@ reads f w = f .allowed (cut (f .layout) w) && matches (f .layout) w
 
 abbrev pub instructionIn : Form → ℕ → Instruction
 instructionIn f w = f .build (cut (f .layout) w)
-
--- whether w is a word of the form, as code tests it
-abbrev pub tests : Form → ℕ → Bool
-tests f w = matchesAfter (f .allowed (cut (f .layout) w)) (f .layout) w
 
 -- the reply to a word that is not ours
 abbrev pub refusal : ℕ → Reply

@@ -8,7 +8,8 @@ ghost use Prim.Native.Nat.{_*_, _^_, _<_, _≤_};
 ghost use lib.Dec.{ltb};
 ghost use lib.ListN.{length, drop};
 ghost use Rattle.words.specs.Words.{forms, formAt, encodeOf};
-ghost use Rattle.words.specs.Rows.{encodedAs, rowLayout, placesOf};
+ghost use Rattle.words.specs.Rows.{encodedAs, rowLayout};
+ghost use Rattle.words.specs.Inside.{placesOf};
 
 // The fixed bits of a form's word, and the lowest bit and width of each of its fields; a row's numbers past them have width 0.
 struct Places {
