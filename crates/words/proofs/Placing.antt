@@ -37,7 +37,7 @@ within [] (x ∷ xs) = false
 within (n ∷ ns) [] = false
 within (n ∷ ns) (x ∷ xs) = ltb x (2 ^ n) && within ns xs
 
-pub within-fits : (ps : List Piece) (xs : List ℕ) → within (widths ps) xs ≡ fits ps xs
+within-fits : (ps : List Piece) (xs : List ℕ) → within (widths ps) xs ≡ fits ps xs
 unfolding within fits
 within-fits [] [] = refl
 within-fits [] (x ∷ xs) = refl
@@ -51,12 +51,7 @@ same-more a b c d h = omega arith
 other-more : (a b c d : ℕ) → b ≡ c + d → a + b ≡ c + (a + d)
 other-more a b c d h = omega arith
 
-sum-none : (ns : List ℕ) → sum ns [] ≡ 0
-unfolding sum
-sum-none [] = refl
-sum-none (n ∷ ns) = refl
-
-pub place-sum : (ps : List Piece) (xs : List ℕ) → place ps xs ≡ place ps [] + sum (lows ps) xs
+place-sum : (ps : List Piece) (xs : List ℕ) → place ps xs ≡ place ps [] + sum (lows ps) xs
 unfolding sum
 place-sum [] xs = refl
 place-sum (fixed n v ∷ ps) xs = same-more (v * 2 ^ span ps) (place ps xs) (place ps []) (sum (lows ps) xs) (place-sum ps xs)
@@ -76,11 +71,11 @@ place-le (field n ∷ ps) (suc k) =
 
 -- one turn
 module _ (ns row : List ℕ) (k : ℕ) (h : k < length ns) (l : k + 1 < length row) where
-  pub sum-turn : sum (drop k ns) (drop (k + 1) row) ≡ getD row (k + 1) 0 * 2 ^ getD ns k 0 + sum (drop (k + 1) ns) (drop (k + 1 + 1) row)
+  sum-turn : sum (drop k ns) (drop (k + 1) row) ≡ getD row (k + 1) 0 * 2 ^ getD ns k 0 + sum (drop (k + 1) ns) (drop (k + 1 + 1) row)
   unfolding sum
   sum-turn = rw (drop-cons ns k 0, drop-cons row (k + 1) 0, add-one (k + 1), add-one k)
 
-  pub within-turn : within (drop k ns) (drop (k + 1) row) ≡ (ltb (getD row (k + 1) 0) (2 ^ getD ns k 0) && within (drop (k + 1) ns) (drop (k + 1 + 1) row))
+  within-turn : within (drop k ns) (drop (k + 1) row) ≡ (ltb (getD row (k + 1) 0) (2 ^ getD ns k 0) && within (drop (k + 1) ns) (drop (k + 1 + 1) row))
   unfolding within
   within-turn = rw (drop-cons ns k 0, drop-cons row (k + 1) 0, add-one (k + 1), add-one k)
 
@@ -120,7 +115,7 @@ formed-upTo (suc n) [] = formed-upTo n []
 formed-upTo (suc n) (fixed k v ∷ ps) = ap (λ (b : Bool). ltb v (2 ^ k) && b) (formed-upTo (suc n) ps)
 formed-upTo (suc n) (field k ∷ ps) = formed-upTo n ps
 
-pub row-wide : (n : ℕ) → span (rowLayout (formAt n)) ≡ 32
+row-wide : (n : ℕ) → span (rowLayout (formAt n)) ≡ 32
 row-wide n = span-upTo 8 (formAt n .layout) ∙ word-wide n
 
 pub row-formed : (n : ℕ) → wellFormed (rowLayout (formAt n)) ≡ true

@@ -39,7 +39,7 @@ cut-upTo (suc n) [] w = ap₂ (λ (x : ℕ) (xs : List ℕ). x ∷ xs) (mod-one 
 cut-upTo (suc n) (fixed k v ∷ ps) w = cut-upTo (suc n) ps w
 cut-upTo (suc n) (field k ∷ ps) w = ap₂ (λ (s : ℕ) (xs : List ℕ). slice s k w ∷ xs) (span-upTo n ps) (cut-upTo n ps w)
 
--- and whether a form has a word does not ask them
+-- whether a form has a word does not ask them: no form asks more than its own fields, today none
 padded-allowed : (n : ℕ) (xs : List ℕ) → formAt n .allowed (padded 8 xs) ≡ formAt n .allowed xs
 padded-allowed n xs = sym (all-allowed n (padded 8 xs)) ∙ all-allowed n xs
 

@@ -3,6 +3,7 @@ use Prim.Native.Nat.{ℕ, zero, suc, _+_, _*_, _-_, _/_, _%_, _^_}
 use mathlib.Core.Bool.{Bool, true, false, _&&_}
 use mathlib.Core.List.{List, [], _∷_}
 use lib.Dec.{ltb, eqb}
+use lib.ListN.{getD, drop}
 
 -- fixed WIDTH VALUE: bits that a form fixes; field WIDTH: bits that it leaves free
 pub data Piece : Type 0 where
@@ -64,8 +65,7 @@ Takes (suc n) A = ℕ → Takes n A
 
 abbrev pub given : {A : Type 0} (n : ℕ) → Takes n A → List ℕ → A
 given zero f xs = f
-given (suc n) f [] = given n (f 0) []
-given (suc n) f (x ∷ xs) = given n (f x) xs
+given (suc n) f xs = given n (f (getD xs 0 0)) (drop 1 xs)
 
 abbrev pub always : {A : Type 0} → A → List ℕ → A
 always a xs = a
