@@ -98,7 +98,7 @@ fn places_of(form: usize) -> Places
     TABLE[form]
 }
 
-// Whether a form has a word with the fields of a row: each of them has one with any.
+// Whether a form has a word with the fields of a row: today each has one with any.
 fn is_allowed(form: usize, row: [u8; 9]) -> bool
     ensures { λ r. ⌜ r ≡ formAt form .allowed (drop 1 row) ⌝ }
 {
