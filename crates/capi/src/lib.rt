@@ -8,7 +8,7 @@ ghost use Rattle.image.specs.Reading.{readOf, listAfter};
 ghost use Rattle.image.specs.Writing.{writtenOf, bufferAfter};
 ghost use Rattle.transcript.specs.Transcript.{transcriptOf, afterAll, placedAll};
 ghost use Rattle.capi.specs.Answers.{ranAs, walkedAs, readAs, writtenAs};
-ghost use Rattle.rows.specs.Rows.{decodedReply, decodedRow, encodedReply, encodedWord};
+ghost use Rattle.words.specs.Rows.{decodedReply, decodedRow, encodedReply, encodedWord};
 use machine::Machine;
 use registers::State;
 use words::Decoded;
@@ -139,7 +139,7 @@ pub extern "C" fn plokamyr_decode(word: u32, row: &mut [u8; 9]) -> u32
     let decoded = words::decode(word);
     match decoded {
         Decoded::Ours(i) => {
-            *row = rows::row_of(i);
+            *row = words::row_of(i);
             0
         }
         Decoded::Refused(reply) => reply.number() as u32,
@@ -152,7 +152,7 @@ pub extern "C" fn plokamyr_encode(row: &[u8; 9], word: &mut u32) -> u32
     ensures { λ r. ⌜ r ≡ encodedReply (now (row .entry)) ⌝ }
     ensures { λ _. ⌜ now (word .exit) ≡ encodedWord (now (row .entry)) (now (word .entry)) ⌝ }
 {
-    let encoded = rows::encoded(*row);
+    let encoded = words::word_of(*row);
     match encoded {
         Encoded::Word(w) => {
             *word = w;

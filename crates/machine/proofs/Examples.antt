@@ -19,7 +19,7 @@ use Rattle.words.specs.declared.Decoded.the-variants.{Ours, Refused}
 use Rattle.words.specs.declared.Instruction.{Instruction}
 use Rattle.words.specs.declared.Instruction.the-variants.{While, Saturating, IncDec, Pnext}
 use Rattle.words.specs.declared.Target.the-variants.{One, Pair, Counter}
-use Rattle.words.specs.Words.{firstOf, decodeOf, wordOf, fieldsOf}
+use Rattle.words.specs.Words.{readBy, decodeOf, wordOf, fieldsOf}
 use Rattle.instructions.specs.Counter.{counterOf, counterFlags, whileCounterOf}
 use Rattle.instructions.specs.Counts.{incDecOf, saturatingOf}
 use Rattle.instructions.specs.Instructions.{computeOf}
@@ -90,5 +90,5 @@ examples =
     ∷ []
 
 pub fourteen : map (λ e. e .got) examples ≡ map (λ e. e .wanted) examples
-unfolding start seen after gives read one examples testBit number elementBit count some afterLast scan bitAt pack active spread elements predicateLength hasBitFrom atLowest atHighest predTest nzcv flagsOf isLength hasStrayBit illegal withX withP withFlags firstOf operandAt comparison clamp saturating allHeld whileElement counterOf counterFlags whileOneOf whilePairOf whileCounterOf incDecOf saturatingOf pnextOf computeOf apply executeOf afterWord stepOf
+unfolding start seen after gives read one examples testBit number elementBit count some afterLast scan bitAt pack active spread elements predicateLength hasBitFrom atLowest atHighest predTest nzcv flagsOf isLength hasStrayBit illegal withX withP withFlags readBy operandAt comparison clamp saturating allHeld whileElement counterOf counterFlags whileOneOf whilePairOf whileCounterOf incDecOf saturatingOf pnextOf computeOf apply executeOf afterWord stepOf
 fourteen = refl

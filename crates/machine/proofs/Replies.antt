@@ -17,7 +17,7 @@ use Rattle.registers.specs.Legal.{legal}
 use Rattle.words.specs.declared.Decoded.{Decoded}
 use Rattle.words.specs.declared.Decoded.the-variants.{Ours, Refused}
 use Rattle.words.specs.declared.Instruction.{Instruction}
-use Rattle.words.specs.Words.{Form, forms, reads, readAs, firstOf, decodeOf, levelOf}
+use Rattle.words.specs.Words.{Form, forms, reads, instructionIn, readBy, decodeOf, levelOf}
 use Rattle.instructions.specs.Operands.{registersOf}
 use Rattle.machine.specs.declared.Stepped.{Stepped}
 use Rattle.machine.specs.Execute.{executeOf}
@@ -28,13 +28,13 @@ use Rattle.machine.proofs.Frame.{Untouched, untouched}
 use Rattle.machine.proofs.Steps.{pick-yes, pick-no, step-legal}
 
 -- a word that is none of ours is answered 1
-refused-unknown : (fs : List Form) (w : ℕ) (r : Reply) → firstOf fs w ≡ Refused r → r ≡ UnknownWord
-unfolding firstOf
+refused-unknown : (fs : List Form) (w : ℕ) (r : Reply) → readBy fs w ≡ Refused r → r ≡ UnknownWord
+unfolding readBy
 refused-unknown [] w r h = cc
 refused-unknown (f ∷ fs) w r h = go (reads f w) refl (refused-unknown fs w r)
   where
-    go : (b : Bool) → reads f w ≡ b → (firstOf fs w ≡ Refused r → r ≡ UnknownWord) → r ≡ UnknownWord
-    go true e rest = let z : _≡_ {A = ℕ} 0 1 = cc (pick-yes (reads f w) (Ours (readAs f w)) (firstOf fs w) e) in absurd (omega arith)
+    go : (b : Bool) → reads f w ≡ b → (readBy fs w ≡ Refused r → r ≡ UnknownWord) → r ≡ UnknownWord
+    go true e rest = let z : _≡_ {A = ℕ} 0 1 = cc (pick-yes (reads f w) (Ours (instructionIn f w)) (readBy fs w) e) in absurd (omega arith)
     go false e rest = rest (sym (pick-no _ _ _ e) ∙ h)
 
 -- ---- the reply of a legal state's step, from what the word is

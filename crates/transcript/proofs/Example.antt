@@ -9,7 +9,7 @@ use Rattle.predicates.specs.PredTest.{atLowest, atHighest, predTest, nzcv, flag
 use Rattle.predicates.specs.Predicate.{bitAt, pack, active, spread, elements, predicateLength, hasBitFrom}
 use Rattle.registers.specs.Legal.{isLength, hasStrayBit, illegal}
 use Rattle.registers.specs.State.{withX, withP, withFlags}
-use Rattle.words.specs.Words.{firstOf}
+use Rattle.words.specs.Words.{readBy}
 use Rattle.instructions.specs.Counter.{counterOf, counterFlags, whileCounterOf}
 use Rattle.instructions.specs.Instructions.{computeOf}
 use Rattle.instructions.specs.Searches.{pnextOf}
@@ -33,7 +33,7 @@ wanted =
 
 -- with the list of 4,096 places that the program lends
 pub example : text (transcriptOf 4096 image) ≡ wanted
-unfolding transcriptOf linesOf text value parts sectionFault orElse settingsWrong flagsWrong flagsIn predicateOf wordsReply flagsReply predicatesReply xReply imageReply stateOf wordsOf wordLine endLine flagDigits decimalIn digits symbol testBit number elementBit count some afterLast scan bitAt pack active spread elements predicateLength hasBitFrom atLowest atHighest predTest nzcv flagsOf isLength hasStrayBit illegal withX withP withFlags firstOf operandAt comparison allHeld whileElement counterOf counterFlags whileOneOf whilePairOf whileCounterOf pnextOf computeOf apply executeOf afterWord stepOf
+unfolding transcriptOf linesOf text value parts sectionFault orElse settingsWrong flagsWrong flagsIn predicateOf wordsReply flagsReply predicatesReply xReply imageReply stateOf wordsOf wordLine endLine flagDigits decimalIn digits symbol testBit number elementBit count some afterLast scan bitAt pack active spread elements predicateLength hasBitFrom atLowest atHighest predTest nzcv flagsOf isLength hasStrayBit illegal withX withP withFlags readBy operandAt comparison allHeld whileElement counterOf counterFlags whileOneOf whilePairOf whileCounterOf pnextOf computeOf apply executeOf afterWord stepOf
 example = refl
 
 -- in every buffer that is long enough for all images

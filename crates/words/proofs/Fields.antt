@@ -1,18 +1,19 @@
 -- An instruction and its fields: building undoes taking the fields, and the other way round.
 use Prim.Native.Nat.{ℕ, zero, suc, _<_, _/_, _^_}
-use mathlib.Core.Path.{_≡_, refl}
+use mathlib.Core.Path.{_≡_, refl, sym, ap, _∙_}
+use mathlib.Core.List.{_∷_}
+use lib.ListN.{length, getD}
 use mathlib.Core.Bool.{Bool, true, false}
 use native.Mathlib.Nat.{mod-lt}
 use native.Mathlib.Omega.{arith}
 use lib.Pow.{pow-pos}
-use Rattle.bits.specs.Choice.{digit}
+use Rattle.bits.specs.Choice.{pick, digit}
 use Rattle.bits.specs.Size.{shift}
 use Rattle.bits.specs.declared.Size.{Size}
 use Rattle.bits.specs.declared.Size.the-variants as Sz
 use Rattle.words.specs.Layout.{slice, cut}
+use Rattle.words.specs.Words.{forms, formAt, numbersOf, flag, sizeOf, conditionOf, eqBit, formOf, fieldsOf, instructionIn, levelOf}
 use Rattle.scalars.specs.While.{upward}
-use Rattle.words.specs.Words.{Form, layout, flag, sizeOf, conditionOf, eqBit, formOf, fieldsOf, build, readAs}
-use Rattle.words.specs.Words.Form.{whileOne, whilePair, whileCounter, saturating, incDec, cntp, cntpCounter, pnext, pfirst, ptest, pfalse}
 use Rattle.scalars.specs.declared.Condition.{Condition}
 use Rattle.scalars.specs.declared.Condition.the-variants.{Less, LessEqual, GreaterEqual, Greater}
 use Rattle.words.specs.declared.Target.{Target}
@@ -38,13 +39,13 @@ condition-bits Greater = refl
 
 ruleset building = (flag-digit, size-shift, condition-bits)
 
-build-while : (c : Condition) (u : Bool) (t : Target) (s : Size) (rn rm : ℕ) → build (formOf (While c u t s rn rm)) (fieldsOf (While c u t s rn rm)) ≡ While c u t s rn rm
+build-while : (c : Condition) (u : Bool) (t : Target) (s : Size) (rn rm : ℕ) → formOf (While c u t s rn rm) .build (fieldsOf (While c u t s rn rm)) ≡ While c u t s rn rm
 build-while c u (One w pd) s rn rm = simp building
 build-while c u (Pair pd) s rn rm = simp building
 build-while c u (Counter f pnd) s rn rm = simp building
 
 -- an instruction is built from its fields
-pub build-fields : (i : Instruction) → build (formOf i) (fieldsOf i) ≡ i
+pub build-fields : (i : Instruction) → formOf i .build (fieldsOf i) ≡ i
 build-fields (While c u t s rn rm) = build-while c u t s rn rm
 build-fields (Saturating d u w s pm rdn) = simp building
 build-fields (IncDec d s pm rdn) = simp building
@@ -87,16 +88,42 @@ eq-condition false false = refl
 
 ruleset reading-back = (slice-digit, slice-size, lt-condition, eq-condition)
 
--- what a word is read as has that form, and the word's fields
-pub read-back : (f : Form) (w : ℕ) → (formOf (readAs f w) ≡ f) × (fieldsOf (readAs f w) ≡ cut (layout f) w)
-read-back whileOne w = (refl, simp reading-back)
-read-back whilePair w = (refl, simp reading-back)
-read-back whileCounter w = (refl, simp reading-back)
-read-back saturating w = (refl, simp reading-back)
-read-back incDec w = (refl, simp reading-back)
-read-back cntp w = (refl, simp reading-back)
-read-back cntpCounter w = (refl, simp reading-back)
-read-back pnext w = (refl, simp reading-back)
-read-back pfirst w = (refl, refl)
-read-back ptest w = (refl, refl)
-read-back pfalse w = (refl, refl)
+-- what each form reads has the form's number, and the word's fields
+pub read-back : (n w : ℕ) → n < length forms → numbersOf (instructionIn (formAt n) w) ≡ n ∷ cut (formAt n .layout) w
+read-back zero w l = simp reading-back
+read-back (suc zero) w l = simp reading-back
+read-back (suc (suc zero)) w l = simp reading-back
+read-back (suc (suc (suc zero))) w l = simp reading-back
+read-back (suc (suc (suc (suc zero)))) w l = simp reading-back
+read-back (suc (suc (suc (suc (suc zero))))) w l = simp reading-back
+read-back (suc (suc (suc (suc (suc (suc zero)))))) w l = simp reading-back
+read-back (suc (suc (suc (suc (suc (suc (suc zero))))))) w l = simp reading-back
+read-back (suc (suc (suc (suc (suc (suc (suc (suc zero)))))))) w l = refl
+read-back (suc (suc (suc (suc (suc (suc (suc (suc (suc zero))))))))) w l = refl
+read-back (suc (suc (suc (suc (suc (suc (suc (suc (suc (suc zero)))))))))) w l = refl
+read-back (suc (suc (suc (suc (suc (suc (suc (suc (suc (suc (suc n))))))))))) w l = absurd (omega arith)
+
+-- an instruction's form is one of the table
+pub number-lt : (i : Instruction) → getD (numbersOf i) 0 0 < length forms
+number-lt (While c u (One w pd) s rn rm) = omega arith
+number-lt (While c u (Pair pd) s rn rm) = omega arith
+number-lt (While c u (Counter f pnd) s rn rm) = omega arith
+number-lt (Saturating d u w s pm rdn) = omega arith
+number-lt (IncDec d s pm rdn) = omega arith
+number-lt (Cntp s pg pn rd) = omega arith
+number-lt (CntpCounter f s pnn rd) = omega arith
+number-lt (Pnext s pv pdn) = omega arith
+number-lt (Pfirst pg pdn) = omega arith
+number-lt (Ptest pg pn) = omega arith
+number-lt (Pfalse pd) = omega arith
+
+-- the level of an instruction that is known by its form, and of a WHILE that is known by its target
+pub level-as : {i : Instruction} {c : Condition} {u : Bool} {t v : Target} {s : Size} {rn rm n : ℕ} → i ≡ While c u t s rn rm → t ≡ v → n ≡ levelOf (While c u v s rn rm) → n ≡ levelOf i
+level-as {c = c} {u = u} {s = s} {rn = rn} {rm = rm} e f h = h ∙ sym (ap levelOf e ∙ ap (λ (x : Target). levelOf (While c u x s rn rm)) f)
+
+-- WHILE one's, by the way that it counts
+pub level-up : {b : Bool} (c : Condition) → b ≡ upward c → b ≡ true → _≡_ {A = ℕ} 1 (pick (flag (digit (upward c))) 1 2)
+level-up c e h = sym (ap (λ (x : Bool). pick (flag (digit x)) 1 2) (sym e ∙ h))
+
+pub level-down : {b : Bool} (c : Condition) → b ≡ upward c → b ≡ false → _≡_ {A = ℕ} 2 (pick (flag (digit (upward c))) 1 2)
+level-down c e h = sym (ap (λ (x : Bool). pick (flag (digit x)) 1 2) (sym e ∙ h))

@@ -3,6 +3,7 @@ use Prim.Native.Nat.{ℕ, zero, suc, _+_, _*_, _-_, _/_, _%_, _^_}
 use mathlib.Core.Bool.{Bool, true, false, _&&_}
 use mathlib.Core.List.{List, [], _∷_}
 use lib.Dec.{ltb, eqb}
+use lib.ListN.{getD, drop}
 
 -- fixed WIDTH VALUE: bits that a form fixes; field WIDTH: bits that it leaves free
 pub data Piece : Type 0 where
@@ -26,7 +27,7 @@ slice lo n w = w / 2 ^ lo % 2 ^ n
 -- all fixed bits of w are as the layout has them
 abbrev pub matches : List Piece → ℕ → Bool
 matches [] w = true
-matches (fixed n v ∷ ps) w = matches ps w && eqb (slice (span ps) n w) v
+matches (fixed n v ∷ ps) w = eqb (slice (span ps) n w) v && matches ps w
 matches (field n ∷ ps) w = matches ps w
 
 -- the fields of w, from the highest down
@@ -50,12 +51,21 @@ place (fixed n v ∷ ps) xs = v * 2 ^ span ps + place ps xs
 place (field n ∷ ps) [] = place ps []
 place (field n ∷ ps) (x ∷ xs) = x * 2 ^ span ps + place ps xs
 
--- a function of n fields, and what it gives for the fields xs
+-- the layout with fields of no bits after it, up to n fields in all
+abbrev pub upTo : ℕ → List Piece → List Piece
+upTo zero ps = ps
+upTo (suc n) [] = field 0 ∷ upTo n []
+upTo (suc n) (fixed k v ∷ ps) = fixed k v ∷ upTo (suc n) ps
+upTo (suc n) (field k ∷ ps) = field k ∷ upTo n ps
+
+-- a function of n fields, and what it gives for the fields xs; one that asks none of them
 abbrev pub Takes : ℕ → Type 0 → Type 0
 Takes zero A = A
 Takes (suc n) A = ℕ → Takes n A
 
 abbrev pub given : {A : Type 0} (n : ℕ) → Takes n A → List ℕ → A
 given zero f xs = f
-given (suc n) f [] = given n (f 0) []
-given (suc n) f (x ∷ xs) = given n (f x) xs
+given (suc n) f xs = given n (f (getD xs 0 0)) (drop 1 xs)
+
+abbrev pub always : {A : Type 0} → A → List ℕ → A
+always a xs = a

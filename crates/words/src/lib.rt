@@ -3,15 +3,17 @@ use bits::Size;
 use replies::Reply;
 use scalars::Condition;
 ghost use mathlib.Core.Path.{_≡_};
-ghost use Rattle.words.specs.Words.{levelOf, whileLevel};
+ghost use Rattle.words.specs.Words.{levelOf};
 
 mod read;
+mod row;
 mod write;
 
-pub use read::condition_of;
 pub use read::decode;
 pub use read::size_of;
+pub use row::row_of;
 pub use write::encode;
+pub use write::word_of;
 
 // What a WHILE writes: a predicate, the pair P(2 pd) and P(2 pd + 1), or the counter P(8 + pnd).
 pub enum Target {
@@ -85,21 +87,6 @@ pub enum Encoded {
     Refused(Reply),
 }
 
-fn while_level(condition: Condition, target: Target) -> u8
-    ensures { λ r. ⌜ r ≡ whileLevel condition target ⌝ }
-{
-    match target {
-        Target::One { .. } => match condition {
-            Condition::Less => 1,
-            Condition::LessEqual => 1,
-            Condition::GreaterEqual => 2,
-            Condition::Greater => 2,
-        },
-        Target::Pair { .. } => 3,
-        Target::Counter { .. } => 3,
-    }
-}
-
 // The level that an instruction asks.
 pub fn level(i: Instruction) -> u8
     ensures { λ r. ⌜ r ≡ levelOf i ⌝ }
@@ -109,7 +96,11 @@ pub fn level(i: Instruction) -> u8
             condition,
             target,
             ..
-        } => while_level(condition, target),
+        } => match target {
+            Target::One { .. } => { if scalars::counts_up(condition) { 1 } else { 2 } }
+            Target::Pair { .. } => 3,
+            Target::Counter { .. } => 3,
+        },
         Instruction::Saturating { .. } => 1,
         Instruction::IncDec { .. } => 1,
         Instruction::Cntp { .. } => 1,

@@ -1,4 +1,4 @@
-// Reading a word: for each form a test of its fixed bits, from the lowest up, and a cut of its fields.
+// Reading a word: for each form a test of its fixed bits, from the highest down as in the table, and a cut of its fields.
 use super::Decoded;
 use super::Instruction;
 use super::Target;
@@ -8,7 +8,8 @@ use scalars::Condition;
 ghost use mathlib.Core.Path.{_≡_};
 ghost use lib.ListN.{drop};
 ghost use Rattle.words.specs.Layout.{slice};
-ghost use Rattle.words.specs.Words.{Form, conditionOf, sizeOf, flag, forms, reads, readAs, firstOf, decodeOf};
+ghost use Rattle.words.specs.Words.{whileOneForm, whilePairForm, whileCounterForm, saturatingForm, incDecForm, cntpForm, cntpCounterForm, pnextForm, pfirstForm, ptestForm, pfalseForm, conditionOf, sizeOf, flag, forms, instructionIn, readBy, decodeOf};
+ghost use Rattle.words.specs.Inside.{tests};
 
 // Size 00 to 11; a larger number is taken for 11.
 pub fn size_of(n: u32) -> Size
@@ -23,7 +24,7 @@ pub fn size_of(n: u32) -> Size
 }
 
 // By (lt, eq).
-pub fn condition_of(lt: bool, eq: bool) -> Condition
+fn condition_of(lt: bool, eq: bool) -> Condition
     ensures { λ r. ⌜ r ≡ conditionOf lt eq ⌝ }
 {
     if lt {
@@ -59,13 +60,13 @@ fn read_while(w: u32, eq: bool, target: Target) -> Instruction
 }
 
 fn is_while_one(w: u32) -> bool
-    ensures { λ r. ⌜ r ≡ reads Form.whileOne w ⌝ }
+    ensures { λ r. ⌜ r ≡ tests whileOneForm w ⌝ }
 {
-    ((w >> 13) % 8 == 0b000) & ((w >> 21) % 2 == 0b1) & ((w >> 24) % 256 == 0b00100101)
+    ((w >> 24) % 256 == 0b00100101) & ((w >> 21) % 2 == 0b1) & ((w >> 13) % 8 == 0b000)
 }
 
 fn read_while_one(w: u32) -> Instruction
-    ensures { λ r. ⌜ r ≡ readAs Form.whileOne w ⌝ }
+    ensures { λ r. ⌜ r ≡ instructionIn whileOneForm w ⌝ }
 {
     let target = Target::One {
         wide: (w >> 12) % 2 == 1,
@@ -75,16 +76,16 @@ fn read_while_one(w: u32) -> Instruction
 }
 
 fn is_while_pair(w: u32) -> bool
-    ensures { λ r. ⌜ r ≡ reads Form.whilePair w ⌝ }
+    ensures { λ r. ⌜ r ≡ tests whilePairForm w ⌝ }
 {
-    ((w >> 4) % 2 == 0b1)
-        & ((w >> 12) % 16 == 0b0101)
+    ((w >> 24) % 256 == 0b00100101)
         & ((w >> 21) % 2 == 0b1)
-        & ((w >> 24) % 256 == 0b00100101)
+        & ((w >> 12) % 16 == 0b0101)
+        & ((w >> 4) % 2 == 0b1)
 }
 
 fn read_while_pair(w: u32) -> Instruction
-    ensures { λ r. ⌜ r ≡ readAs Form.whilePair w ⌝ }
+    ensures { λ r. ⌜ r ≡ instructionIn whilePairForm w ⌝ }
 {
     let target = Target::Pair {
         pd: ((w >> 1) % 8) as u8,
@@ -93,17 +94,17 @@ fn read_while_pair(w: u32) -> Instruction
 }
 
 fn is_while_counter(w: u32) -> bool
-    ensures { λ r. ⌜ r ≡ reads Form.whileCounter w ⌝ }
+    ensures { λ r. ⌜ r ≡ tests whileCounterForm w ⌝ }
 {
-    ((w >> 4) % 2 == 0b1)
-        & ((w >> 12) % 2 == 0b0)
-        & ((w >> 14) % 4 == 0b01)
+    ((w >> 24) % 256 == 0b00100101)
         & ((w >> 21) % 2 == 0b1)
-        & ((w >> 24) % 256 == 0b00100101)
+        & ((w >> 14) % 4 == 0b01)
+        & ((w >> 12) % 2 == 0b0)
+        & ((w >> 4) % 2 == 0b1)
 }
 
 fn read_while_counter(w: u32) -> Instruction
-    ensures { λ r. ⌜ r ≡ readAs Form.whileCounter w ⌝ }
+    ensures { λ r. ⌜ r ≡ instructionIn whileCounterForm w ⌝ }
 {
     let target = Target::Counter {
         four: (w >> 13) % 2 == 1,
@@ -113,16 +114,16 @@ fn read_while_counter(w: u32) -> Instruction
 }
 
 fn is_saturating(w: u32) -> bool
-    ensures { λ r. ⌜ r ≡ reads Form.saturating w ⌝ }
+    ensures { λ r. ⌜ r ≡ tests saturatingForm w ⌝ }
 {
-    ((w >> 9) % 2 == 0b0)
-        & ((w >> 11) % 32 == 0b10001)
+    ((w >> 24) % 256 == 0b00100101)
         & ((w >> 18) % 16 == 0b1010)
-        & ((w >> 24) % 256 == 0b00100101)
+        & ((w >> 11) % 32 == 0b10001)
+        & ((w >> 9) % 2 == 0b0)
 }
 
 fn read_saturating(w: u32) -> Instruction
-    ensures { λ r. ⌜ r ≡ readAs Form.saturating w ⌝ }
+    ensures { λ r. ⌜ r ≡ instructionIn saturatingForm w ⌝ }
 {
     let size = size_of((w >> 22) % 4);
     Instruction::Saturating {
@@ -136,16 +137,16 @@ fn read_saturating(w: u32) -> Instruction
 }
 
 fn is_inc_dec(w: u32) -> bool
-    ensures { λ r. ⌜ r ≡ reads Form.incDec w ⌝ }
+    ensures { λ r. ⌜ r ≡ tests incDecForm w ⌝ }
 {
-    ((w >> 9) % 4 == 0b00)
-        & ((w >> 11) % 32 == 0b10001)
+    ((w >> 24) % 256 == 0b00100101)
         & ((w >> 17) % 32 == 0b10110)
-        & ((w >> 24) % 256 == 0b00100101)
+        & ((w >> 11) % 32 == 0b10001)
+        & ((w >> 9) % 4 == 0b00)
 }
 
 fn read_inc_dec(w: u32) -> Instruction
-    ensures { λ r. ⌜ r ≡ readAs Form.incDec w ⌝ }
+    ensures { λ r. ⌜ r ≡ instructionIn incDecForm w ⌝ }
 {
     let size = size_of((w >> 22) % 4);
     Instruction::IncDec {
@@ -157,13 +158,13 @@ fn read_inc_dec(w: u32) -> Instruction
 }
 
 fn is_cntp(w: u32) -> bool
-    ensures { λ r. ⌜ r ≡ reads Form.cntp w ⌝ }
+    ensures { λ r. ⌜ r ≡ tests cntpForm w ⌝ }
 {
-    ((w >> 9) % 2 == 0b0) & ((w >> 14) % 256 == 0b10000010) & ((w >> 24) % 256 == 0b00100101)
+    ((w >> 24) % 256 == 0b00100101) & ((w >> 14) % 256 == 0b10000010) & ((w >> 9) % 2 == 0b0)
 }
 
 fn read_cntp(w: u32) -> Instruction
-    ensures { λ r. ⌜ r ≡ readAs Form.cntp w ⌝ }
+    ensures { λ r. ⌜ r ≡ instructionIn cntpForm w ⌝ }
 {
     let size = size_of((w >> 22) % 4);
     Instruction::Cntp {
@@ -175,13 +176,13 @@ fn read_cntp(w: u32) -> Instruction
 }
 
 fn is_cntp_counter(w: u32) -> bool
-    ensures { λ r. ⌜ r ≡ reads Form.cntpCounter w ⌝ }
+    ensures { λ r. ⌜ r ≡ tests cntpCounterForm w ⌝ }
 {
-    ((w >> 9) % 2 == 0b1) & ((w >> 11) % 2048 == 0b10000010000) & ((w >> 24) % 256 == 0b00100101)
+    ((w >> 24) % 256 == 0b00100101) & ((w >> 11) % 2048 == 0b10000010000) & ((w >> 9) % 2 == 0b1)
 }
 
 fn read_cntp_counter(w: u32) -> Instruction
-    ensures { λ r. ⌜ r ≡ readAs Form.cntpCounter w ⌝ }
+    ensures { λ r. ⌜ r ≡ instructionIn cntpCounterForm w ⌝ }
 {
     let size = size_of((w >> 22) % 4);
     Instruction::CntpCounter {
@@ -193,13 +194,13 @@ fn read_cntp_counter(w: u32) -> Instruction
 }
 
 fn is_pnext(w: u32) -> bool
-    ensures { λ r. ⌜ r ≡ reads Form.pnext w ⌝ }
+    ensures { λ r. ⌜ r ≡ tests pnextForm w ⌝ }
 {
-    ((w >> 4) % 2 == 0b0) & ((w >> 9) % 8192 == 0b0110011100010) & ((w >> 24) % 256 == 0b00100101)
+    ((w >> 24) % 256 == 0b00100101) & ((w >> 9) % 8192 == 0b0110011100010) & ((w >> 4) % 2 == 0b0)
 }
 
 fn read_pnext(w: u32) -> Instruction
-    ensures { λ r. ⌜ r ≡ readAs Form.pnext w ⌝ }
+    ensures { λ r. ⌜ r ≡ instructionIn pnextForm w ⌝ }
 {
     let size = size_of((w >> 22) % 4);
     Instruction::Pnext {
@@ -210,13 +211,13 @@ fn read_pnext(w: u32) -> Instruction
 }
 
 fn is_pfirst(w: u32) -> bool
-    ensures { λ r. ⌜ r ≡ reads Form.pfirst w ⌝ }
+    ensures { λ r. ⌜ r ≡ tests pfirstForm w ⌝ }
 {
-    ((w >> 4) % 2 == 0b0) & ((w >> 9) % (1 << 23) == 0x2558C000 >> 9)
+    ((w >> 9) % (1 << 23) == 0x2558C000 >> 9) & ((w >> 4) % 2 == 0b0)
 }
 
 fn read_pfirst(w: u32) -> Instruction
-    ensures { λ r. ⌜ r ≡ readAs Form.pfirst w ⌝ }
+    ensures { λ r. ⌜ r ≡ instructionIn pfirstForm w ⌝ }
 {
     Instruction::Pfirst {
         pg: ((w >> 5) % 16) as u8,
@@ -225,13 +226,13 @@ fn read_pfirst(w: u32) -> Instruction
 }
 
 fn is_ptest(w: u32) -> bool
-    ensures { λ r. ⌜ r ≡ reads Form.ptest w ⌝ }
+    ensures { λ r. ⌜ r ≡ tests ptestForm w ⌝ }
 {
-    ((w >> 0) % 32 == 0b00000) & ((w >> 9) % 2 == 0b0) & ((w >> 14) % (1 << 18) == 0x2550C000 >> 14)
+    ((w >> 14) % (1 << 18) == 0x2550C000 >> 14) & ((w >> 9) % 2 == 0b0) & ((w >> 0) % 32 == 0b00000)
 }
 
 fn read_ptest(w: u32) -> Instruction
-    ensures { λ r. ⌜ r ≡ readAs Form.ptest w ⌝ }
+    ensures { λ r. ⌜ r ≡ instructionIn ptestForm w ⌝ }
 {
     Instruction::Ptest {
         pg: ((w >> 10) % 16) as u8,
@@ -240,13 +241,13 @@ fn read_ptest(w: u32) -> Instruction
 }
 
 fn is_pfalse(w: u32) -> bool
-    ensures { λ r. ⌜ r ≡ reads Form.pfalse w ⌝ }
+    ensures { λ r. ⌜ r ≡ tests pfalseForm w ⌝ }
 {
     (w >> 4) % (1 << 28) == 0x2518E400 >> 4
 }
 
 fn read_pfalse(w: u32) -> Instruction
-    ensures { λ r. ⌜ r ≡ readAs Form.pfalse w ⌝ }
+    ensures { λ r. ⌜ r ≡ instructionIn pfalseForm w ⌝ }
 {
     Instruction::Pfalse {
         pd: ((w >> 0) % 16) as u8,
@@ -255,7 +256,7 @@ fn read_pfalse(w: u32) -> Instruction
 
 // The forms that count.
 fn decode_count(w: u32) -> Decoded
-    ensures { λ r. ⌜ r ≡ firstOf (drop 3 forms) w ⌝ }
+    ensures { λ r. ⌜ r ≡ readBy (drop 3 forms) w ⌝ }
 {
     if is_saturating(w) {
         return Decoded::Ours(read_saturating(w));
@@ -274,7 +275,7 @@ fn decode_count(w: u32) -> Decoded
 
 // The forms on predicates alone; no other form is ours.
 fn decode_predicate(w: u32) -> Decoded
-    ensures { λ r. ⌜ r ≡ firstOf (drop 7 forms) w ⌝ }
+    ensures { λ r. ⌜ r ≡ readBy (drop 7 forms) w ⌝ }
 {
     if is_pnext(w) {
         return Decoded::Ours(read_pnext(w));

@@ -1,5 +1,5 @@
 -- `plokamyr_decode` meets its contract. Assumes nothing.
-use Rattle.rows.proofs.RowLaws.{to-word, after-word}
+use Rattle.words.proofs.Rows.{to-word, after-word}
 use borrow.Author.Needs.{needs}
 use Rattle.capi.proofs.plokamyr_decode.Statement.{statement}
 use Rattle.capi.proofs.plokamyr_decode.Tie as tie

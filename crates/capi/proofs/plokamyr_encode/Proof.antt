@@ -1,11 +1,11 @@
 -- `plokamyr_encode` meets its contract. Assumes nothing.
-use Rattle.rows.proofs.RowLaws.{to-row, after-row}
+use Rattle.words.proofs.Rows.{to-row, after-row}
 use borrow.Author.Needs.{needs}
 use Rattle.capi.proofs.plokamyr_encode.Statement.{statement}
 use Rattle.capi.proofs.plokamyr_encode.Tie as tie
 
-encoded-requires : tie.Need-encoded-requires
-encoded-requires c κs = search needs
+word-of-requires : tie.Need-word-of-requires
+word-of-requires c κs = search needs
 
 enum-known-encoded : tie.Need-enum-known-encoded
 enum-known-encoded c = search needs
@@ -29,7 +29,7 @@ pub plokamyr-encode-spec : {M : Type 1} → statement M
 plokamyr-encode-spec =
     tie.close
     (tie.spec
-    encoded-requires
+    word-of-requires
     enum-known-encoded
     enum-known-encoded-2
     number-requires
