@@ -1,7 +1,7 @@
 -- What a walk answers, refused or not. Assumes nothing but what the types of its arguments say.
 use mathlib.Core.Bool.{Bool, true, false, not}
 use mathlib.Core.List.{List}
-use mathlib.Core.Path.{_≡_, refl, sym, ap, subst₂, _∙_}
+use mathlib.Core.Path.{_≡_, sym, ap, subst, subst₂, _∙_}
 use Prim.Native.Nat.{ℕ}
 use lib.ListN.{length}
 use borrow.Author.Tests.{eqb-true, not-true, not-false}
@@ -64,3 +64,7 @@ module _ (size n m d k budget : ℕ) (s : State) (l : List ℕ) where
           (demand3 (sizeOf size) n m d k s l (accepted-within size n m d k s l typed e) budget),
     ),
   )
+
+  -- demand 3 of the answer as the definition has it
+  pub demand-of : {after : List ℕ} {r : Walked} → Answers after r → refusalOf size n m d k s (length l) ≡ Done → Demand3 (sizeOf size) n m d k budget s l after (walkOf size n m d k budget s l)
+  demand-of {after} h e = subst (λ (x : Walked). Demand3 (sizeOf size) n m d k budget s l after x) (h .0) (h .1 .1 e)
