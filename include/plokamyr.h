@@ -77,7 +77,8 @@ struct plokamyr_ran plokamyr_run(struct plokamyr_state state, const uint32_t *wo
 
 /* ---- the walk ---- */
 
-/* count instructions were executed, visited positions stand in the list, and state is what is left. For a refusal other than 12: 0, 0 and the given state. */
+/* count instructions were executed, visited positions stand at the front of the list, and state is what they left.
+ * For a refusal other than 12: 0, 0 and the given state. */
 struct plokamyr_walked {
     enum plokamyr_reply reply;
     uint64_t count;

@@ -1,16 +1,18 @@
 -- Demand 3's hypotheses are met, and the walk is what it says: bytes from 5 to 42 at VL 128, where three vectors are crossed, and at VL 512; and a whole walk of doublewords by computation.
-use mathlib.Core.Bool.{true}
+use mathlib.Core.Bool.{Bool, true}
 use mathlib.Core.List.{List, [], _∷_}
-use mathlib.Core.Path.{_≡_, refl}
-use Prim.Native.Nat.{ℕ, zero, suc, _^_, _<_}
+use mathlib.Core.Path.{_≡_, refl, ap}
+use Prim.Native.Nat.{ℕ, zero, suc, _^_, _≤_, _<_}
 use native.Mathlib.Omega.{arith}
 use lib.ListN.{set, replicate, length, getD}
+use borrow.Author.Tests.{le-ltb}
 use Rattle.bits.specs.declared.Size.the-variants as Sz
+use Rattle.bits.specs.Choice.{pick}
 use Rattle.bits.specs.Bits.{testBit, number, elementBit}
 use Rattle.bits.specs.Search.{count, some, afterLast, scan}
 use Rattle.predicates.specs.PredTest.{atLowest, atHighest, predTest, nzcv, flagsOf}
 use Rattle.predicates.specs.Predicate.{bitAt, pack, active, spread, elements, predicateLength, hasBitFrom, allFalse}
-use Rattle.replies.specs.declared.Reply.the-variants.{Done}
+use Rattle.replies.specs.declared.Reply.the-variants.{Done, ListTooShort}
 use Rattle.registers.specs.declared.State.{State}
 use Rattle.registers.specs.Legal.{isLength, hasStrayBit, illegal}
 use Rattle.registers.specs.State.{readX, withX, withP, withFlags}
@@ -36,14 +38,14 @@ start vl x1 x2 = record {
   p = replicate 16 allFalse;
 }
 
--- bytes, X1 to X2, lanes P0, cursor P1, 37 places: nothing is refused
-pub accepted-128 : refusalOf 0 1 2 0 1 (start 128 5 42) 37 ≡ Done
+-- bytes, X1 to X2, lanes P0, cursor P1, at least 37 places: nothing is refused
+pub accepted-128 : (places : ℕ) → 37 ≤ places → refusalOf 0 1 2 0 1 (start 128 5 42) places ≡ Done
 unfolding flagsOf refusalOf badRegisters illegal isLength hasStrayBit some hasBitFrom predicateLength bitAt pack number testBit
-accepted-128 = refl
+accepted-128 places h = ap (λ (b : Bool). pick b ListTooShort Done) (le-ltb places 37 h)
 
-pub accepted-512 : refusalOf 0 1 2 0 1 (start 512 5 42) 37 ≡ Done
+pub accepted-512 : (places : ℕ) → 37 ≤ places → refusalOf 0 1 2 0 1 (start 512 5 42) places ≡ Done
 unfolding flagsOf refusalOf badRegisters illegal isLength hasStrayBit some hasBitFrom predicateLength bitAt pack number testBit
-accepted-512 = refl
+accepted-512 places h = ap (λ (b : Bool). pick b ListTooShort Done) (le-ltb places 37 h)
 
 -- 37 + 3 · 3 + 2 instructions with 16 lanes, 37 + 3 + 2 with 64
 pub needed-128 : needed Sz.B 1 2 (start 128 5 42) ≡ 48
@@ -69,7 +71,7 @@ typed vl = record { xs = refl; ps = refl; fits = fits }
     fits (suc (suc (suc i))) = omega (arith, zeros 28 i)
 
 -- with 48 instructions at VL 128, and with 42 at VL 512, both walks write 5, 6, .., 41 and nothing else, and leave the same list
-module _ (l : List ℕ) (room : length l ≡ 37) where
+module _ (l : List ℕ) (room : 37 ≤ length l) where
   abbrev at-128 : Walk State
   at-128 = wholeOf 0 1 2 0 1 48 (start 128 5 42) l
 
@@ -79,7 +81,7 @@ module _ (l : List ℕ) (room : length l ≡ 37) where
   pub both-lengths : Wrote 5 37 l at-128 × Wrote 5 37 l at-512 × (at-128 .list ≡ at-512 .list)
   unfolding elements predicateLength
   both-lengths =
-      two-lengths 0 1 2 0 1 l 48 42 (start 128 5 42) (start 512 5 42) (typed 128) (typed 512) (rw room accepted-128) (rw room accepted-512) refl refl (omega arith) (omega arith)
+      two-lengths 0 1 2 0 1 l 48 42 (start 128 5 42) (start 512 5 42) (typed 128) (typed 512) (accepted-128 (length l) room) (accepted-512 (length l) room) refl refl (omega arith) (omega arith)
 
 -- doublewords from 5 to 8 with 2 lanes: 3 + 3 · 2 + 2 instructions
 pub walked-whole : plainWalk Sz.D 1 2 0 1 11 (start 128 5 8) (0 ∷ 0 ∷ 0 ∷ 7 ∷ []) .list ≡ 5 ∷ 6 ∷ 7 ∷ 7 ∷ []

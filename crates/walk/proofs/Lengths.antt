@@ -1,18 +1,16 @@
 -- Two vector lengths: a walk's positions hang on start and limit alone. Assumes nothing but what the types of the walks' arguments say.
 use mathlib.Core.List.{List}
-use mathlib.Core.Path.{_≡_, sym, ap, ap₂, subst, _∙_}
+use mathlib.Core.Path.{_≡_, sym, subst, _∙_}
 use Prim.Native.Nat.{ℕ, _+_, _-_, _≤_, _<_}
 use native.Mathlib.Decide.{decLt}
 use native.Mathlib.Omega.{arith}
 use lib.ListN.{length, getD}
 use lib.Seq.{ext-getD}
-use Rattle.bits.specs.declared.Size.{Size}
 use Rattle.replies.specs.declared.Reply.the-variants.{Done}
 use Rattle.registers.specs.declared.State.{State}
 use Rattle.registers.specs.State.{readX}
 use Rattle.words.specs.Words.{sizeOf}
-use Rattle.walk.specs.declared.Walked.{Walked}
-use Rattle.walk.specs.Demand.{Demand3, needed}
+use Rattle.walk.specs.Demand.{needed}
 use Rattle.walk.specs.Plain.{Walk}
 use Rattle.walk.specs.Walk.{distance, refusalOf, wholeOf}
 use Rattle.walk.proofs.Accepted.{Typed, accepted-within}

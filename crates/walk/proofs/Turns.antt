@@ -51,14 +51,6 @@ measures vl size pd pk v u w low end from live iu il ie iw is =
       from-is = is ∙ last-live vl size pk w (under w pk iw);
     }
 
-pub measured-as : {vl : ℕ} {size : Size} {pd pd′ pk pk′ : Predicate} {low low′ end end′ from from′ : ℕ} → pd′ ≡ pd → pk′ ≡ pk → low′ ≡ low → end′ ≡ end → from′ ≡ from
-    → Measured vl size pd pk low end from → Measured vl size pd′ pk′ low′ end′ from′
-measured-as {vl = vl} {size = size} ed ek el ee ef known = record {
-  low-is = el ∙ known .low-is ∙ ap (λ (p : Predicate). firstFrom (bitAt (pack (λ b. bitAt p b && bitAt (liveOf vl size) b))) 0 256) (sym ed);
-  end-is = ee ∙ known .end-is ∙ ap (λ (p : Predicate). afterLast (bitAt (pack (λ b. bitAt p b && bitAt (liveOf vl size) b))) 256) (sym ed);
-  from-is = ef ∙ known .from-is ∙ ap (λ (p : Predicate). afterLast (active (shift size) p) (elements vl size)) (sym ek);
-}
-
 -- the other phases are not PNEXT's
 number : Phase → ℕ
 number P.Pfalse = 0

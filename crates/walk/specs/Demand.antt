@@ -30,7 +30,7 @@ pub record Finished (size : Size) (n m d k : ℕ) (s : State) (r : Walked) : Typ
   pub visited : r .visited ≡ distance n m s
   pub state : r .state ≡ finalState n m d k s
 
--- a walk whose budget is spent
+-- a walk whose budget is spent: state and positions are the plain walk's after that many instructions
 pub record Spent (budget : ℕ) (r : Walked) : Type 0 where
   pub reply : r .reply ≡ BudgetSpent
   pub count : r .count ≡ budget

@@ -26,7 +26,7 @@ pub fn run(state: &State, words: &[u32]) -> Ran {
 }
 
 /// What [`walk`] answers: `count` instructions were executed, `visited` positions stand at the front of the list, and
-/// `state` is what is left. For a refusal other than 12: 0, 0 and the given state.
+/// `state` is what they left. For a refusal other than 12: 0, 0 and the given state.
 #[derive(Clone, Debug, PartialEq, Eq)]
 #[must_use]
 pub struct Walked {

@@ -1,6 +1,6 @@
 -- `plain` meets its contract: between two turns its locals are the plain walk with the count as its budget. Assumes nothing.
 use mathlib.Core.Logic.{⊎-elim}
-use mathlib.Core.Path.{_≡_, refl, sym, ap, subst, _∙_}
+use mathlib.Core.Path.{_≡_, refl, sym, subst}
 use Prim.Native.Nat.{_-_, _*_, _%_, _^_, _<_}
 use native.Mathlib.Omega.{arith}
 use lib.ListN.{length}
@@ -13,8 +13,6 @@ use Rattle.predicates.specs.Predicate.{elements}
 use Rattle.predicates.proofs.ElementBits.{in-bits}
 use Rattle.predicates.proofs.Live.{elements-fit, elements-le}
 use Rattle.registers.proofs.Registers.{length-mapped}
-use Rattle.walk.specs.Walk.{plainWalk, walked}
-use Rattle.walk.specs.Plain.{Walk}
 use Rattle.walk.proofs.Accepted.{Typed, x-fits, Within, accepted-within}
 use Rattle.walk.proofs.Loop.{Between, as-left, bit-at, first-turn, list-kept, once-ended, once-spent, answers, turn-pfalse, turn-whilelo, turn-incp, turn-past, has-place, turn-to}
 use Rattle.walk.proofs.plain.Statement.{statement}
@@ -46,6 +44,11 @@ turning c = c .before .before .before
 abbrev searched : tie.After-shift Inv-loop μ-loop → tie.After-next-active Inv-loop μ-loop
 searched c = c .before .before
 
+-- the turn whose PNEXT finds an element
+abbrev found-in : tie.After-shift Inv-loop μ-loop → tie.At-loop Inv-loop μ-loop
+found-in c = head (turning (searched c))
+
+-- after the last turn
 abbrev last : tie.After-answer Inv-loop μ-loop → tie.At-loop Inv-loop μ-loop
 last c = c .before .before .before .before .before .before
 
@@ -135,13 +138,13 @@ shift-requires : tie.Need-shift-requires Inv-loop μ-loop
 shift-requires c κs = search needs
 
 shl-b : tie.Need-shl-b Inv-loop μ-loop
-shl-b c = omega (arith, c .shift .ensures, shift-lt (size-at (prepared (head (turning (searched c))))))
+shl-b c = omega (arith, c .shift .ensures, shift-lt (size-at (prepared (found-in c))))
 
 -- its lowest bit
-bit-is : (c : tie.After-shift Inv-loop μ-loop) → let h = prepared (head (turning (searched c))) in
+bit-is : (c : tie.After-shift Inv-loop μ-loop) → let h = prepared (found-in c) in
     (searched c .next-active .result * 2 ^ c .shift .result) % 2 ^ 64 ≡ searched c .next-active .result * 2 ^ shift (size-at h)
 bit-is c =
-    let h = prepared (head (turning (searched c))) in
+    let h = prepared (found-in c) in
     bit-at (entry h .args .start .vl) (size-at h) (c .shift .ensures) (h .before .elements .ensures) (c .before .if2 .left)
 
 only-element-requires : tie.Need-only-element-requires Inv-loop μ-loop
@@ -158,7 +161,7 @@ wrapping-add-u64-requires : tie.Need-wrapping-add-u64-requires Inv-loop μ-loop
 wrapping-add-u64-requires c κs = search needs
 
 -- the list has a place for its position
-in-list : (c : tie.After-wrapping-add-u64 Inv-loop μ-loop) → let h = head (turning (searched (c .before .before))) in h .loop .visited < length (h .loop .list)
+in-list : (c : tie.After-wrapping-add-u64 Inv-loop μ-loop) → let h = found-in (c .before .before) in h .loop .visited < length (h .loop .list)
 in-list c =
     let f = searched (c .before .before) in
     let t = turning f in
@@ -166,21 +169,21 @@ in-list c =
     has-place (within (prepared h)) (h .loop .inv) (t .if1 .taken) (t .before .loop-test .taken) (f .before .enum-told3 .given .1) (f .next-active .ensures) (prepared h .before .elements .ensures)
     (c .before .before .before .if2 .left) (c .before .only-element .ensures) (bit-is (c .before .before))
 
-list-fits : (c : tie.After-wrapping-add-u64 Inv-loop μ-loop) → length (head (turning (searched (c .before .before))) .loop .list) ≡ length (now (entry (prepared (head (turning (searched (c .before .before))))) .args .list))
-list-fits c = let h = head (turning (searched (c .before .before))) in list-kept (within (prepared h)) (h .loop .inv)
+list-fits : (c : tie.After-wrapping-add-u64 Inv-loop μ-loop) → length (found-in (c .before .before) .loop .list) ≡ length (now (entry (prepared (found-in (c .before .before))) .args .list))
+list-fits c = let h = found-in (c .before .before) in list-kept (within (prepared h)) (h .loop .inv)
 
 mul-list : tie.Need-mul-list Inv-loop μ-loop
-mul-list c = omega (arith, in-list c, list-fits c, entry (prepared (head (turning (searched (c .before .before))))) .good)
+mul-list c = omega (arith, in-list c, list-fits c, entry (prepared (found-in (c .before .before))) .good)
 
 slice-write-list : tie.Need-slice-write-list Inv-loop μ-loop
 slice-write-list c = in-list c
 
 add-visited : tie.Need-add-visited Inv-loop μ-loop
-add-visited c = omega (arith, in-list c, list-fits c, entry (prepared (head (turning (searched (c .before .before))))) .good)
+add-visited c = omega (arith, in-list c, list-fits c, entry (prepared (found-in (c .before .before))) .good)
 
 add-next : tie.Need-add-next Inv-loop μ-loop
 add-next c =
-    let h = prepared (head (turning (searched (c .before .before)))) in
+    let h = prepared (found-in (c .before .before)) in
     omega (arith, c .before .before .before .if2 .left, h .before .elements .ensures, elements-le (entry h .args .start .vl) (size-at h))
 
 enum-told-4 : tie.Need-enum-told-4 Inv-loop μ-loop
