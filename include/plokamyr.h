@@ -77,10 +77,12 @@ struct plokamyr_ran plokamyr_run(struct plokamyr_state state, const uint32_t *wo
 
 /* ---- the walk ---- */
 
-/* count instructions were executed, and state is what they left; for a refusal other than 12, 0 and the given state. */
+/* count instructions were executed, visited positions stand at the front of the list, and state is what they left.
+ * For a refusal other than 12: 0, 0 and the given state. */
 struct plokamyr_walked {
     enum plokamyr_reply reply;
     uint64_t count;
+    size_t visited;
     struct plokamyr_state state;
 };
 

@@ -133,6 +133,7 @@ static void expect_walk(const struct plokamyr_state *s, struct route r, size_t p
     struct plokamyr_walked walked = go(s, r, places, budget);
     CHECK(walked.reply == reply);
     CHECK(walked.count == 0);
+    CHECK(walked.visited == 0);
     CHECK(same_state(&walked.state, s));
     CHECK(is_filled(&list, sizeof list));
 }
@@ -210,6 +211,7 @@ static uint64_t true_element(const struct plokamyr_predicate *p, uint32_t size) 
 
 static struct plokamyr_walked plain_walk(struct plokamyr_state s, struct route r, uint64_t *places, uint64_t budget) {
     uint64_t count = 0;
+    size_t visited = 0;
     char next = 'f';
     while (next != 'e' && count < budget) {
         uint32_t word = walk_word(r, next);
@@ -218,12 +220,12 @@ static struct plokamyr_walked plain_walk(struct plokamyr_state s, struct route r
         if (next == 'w') {
             next = s.flags.z ? 'e' : 'p';
         } else if (next == 'p' && !s.flags.z) {
-            *places++ = s.x[r.n] + true_element(&s.p[r.k], r.size);
+            places[visited++] = s.x[r.n] + true_element(&s.p[r.k], r.size);
         } else {
             next = next == 'p' ? 'i' : 'w';
         }
     }
-    return (struct plokamyr_walked){next == 'e' ? PLOKAMYR_DONE : PLOKAMYR_BUDGET_SPENT, count, s};
+    return (struct plokamyr_walked){next == 'e' ? PLOKAMYR_DONE : PLOKAMYR_BUDGET_SPENT, count, visited, s};
 }
 
 static void check_budget(const struct plokamyr_state *s, struct route r, size_t places, uint64_t budget) {
@@ -233,6 +235,7 @@ static void check_budget(const struct plokamyr_state *s, struct route r, size_t 
     struct plokamyr_walked walked = go(s, r, places, budget);
     CHECK(walked.reply == plain.reply);
     CHECK(walked.count == plain.count);
+    CHECK(walked.visited == plain.visited);
     CHECK(same_state(&walked.state, &plain.state));
     CHECK(memcmp(list.value, plain_list, sizeof plain_list) == 0);
     CHECK_GUARDS(list);

@@ -7,7 +7,7 @@ static void sizes(void) {
     CHECK(sizeof(struct plokamyr_flags) == 4);
     CHECK(sizeof(struct plokamyr_state) == 776);
     CHECK(sizeof(struct plokamyr_ran) == 792);
-    CHECK(sizeof(struct plokamyr_walked) == 792);
+    CHECK(sizeof(struct plokamyr_walked) == 800);
     CHECK(sizeof(struct plokamyr_reading) == 792);
     CHECK(sizeof(struct plokamyr_written) == 16);
 }
@@ -29,7 +29,8 @@ static void offsets(void) {
     CHECK(offsetof(struct plokamyr_ran, state) == 16);
     CHECK(offsetof(struct plokamyr_walked, reply) == 0);
     CHECK(offsetof(struct plokamyr_walked, count) == 8);
-    CHECK(offsetof(struct plokamyr_walked, state) == 16);
+    CHECK(offsetof(struct plokamyr_walked, visited) == 16);
+    CHECK(offsetof(struct plokamyr_walked, state) == 24);
     CHECK(offsetof(struct plokamyr_reading, reply) == 0);
     CHECK(offsetof(struct plokamyr_reading, count) == 8);
     CHECK(offsetof(struct plokamyr_reading, state) == 16);
@@ -124,6 +125,7 @@ static void ran_fields(uint64_t vl) {
 static void check_walked(const struct plokamyr_walked *walked, const struct plokamyr_state *after) {
     CHECK(walked->reply == PLOKAMYR_DONE);
     CHECK(walked->count == 2 + 3 + 2);
+    CHECK(walked->visited == 2);
     check_fields(&walked->state, after);
 }
 

@@ -13,7 +13,7 @@ abbrev pub ranAs : Machine.Ran → Ran
 ranAs r = record { reply = numberOf (r .reply); done = r .done; state = r .state }
 
 abbrev pub walkedAs : Walk.Walked → Walked
-walkedAs r = record { reply = numberOf (r .reply); count = r .count; state = r .state }
+walkedAs r = record { reply = numberOf (r .reply); count = r .count; visited = r .visited; state = r .state }
 
 abbrev pub readAs : Image.Reading → Reading
 readAs r = record { reply = numberOf (r .reply); count = r .count; state = r .state }

@@ -1,9 +1,12 @@
 // The library as C calls it: include/plokamyr.h declares these functions. Replies are the paper's numbers.
 ghost use mathlib.Core.Path.{_≡_};
 ghost use lib.ListN.{length};
+ghost use Rattle.replies.specs.declared.Reply.the-variants.{Done};
 ghost use Rattle.replies.specs.Reply.{numberOf};
+ghost use Rattle.words.specs.Words.{sizeOf};
 ghost use Rattle.machine.specs.Step.{runOf, stepOf};
-ghost use Rattle.walk.specs.Walk.{walkOf, wholeOf};
+ghost use Rattle.walk.specs.Walk.{refusalOf, walkOf, wholeOf};
+ghost use Rattle.walk.specs.Demand.{Demand3};
 ghost use Rattle.image.specs.Reading.{readOf, listAfter};
 ghost use Rattle.image.specs.Writing.{writtenOf, bufferAfter};
 ghost use Rattle.transcript.specs.Transcript.{transcriptOf, afterAll, placedAll};
@@ -25,6 +28,7 @@ pub struct Ran {
 pub struct Walked {
     pub reply: u32,
     pub count: u64,
+    pub visited: usize,
     pub state: State,
 }
 
@@ -79,6 +83,7 @@ pub extern "C" fn plokamyr_walk(
 ) -> Walked
     ensures { λ r. ⌜ r ≡ walkedAs (walkOf size n m d k budget state (now (list .entry))) ⌝ }
     ensures { λ r. ⌜ now (list .exit) ≡ wholeOf size n m d k budget state (now (list .entry)) .list ⌝ }
+    ensures { λ r. ⌜ (refusalOf size n m d k state (length (now (list .entry))) ≡ Done → Demand3 (sizeOf size) n m d k budget state (now (list .entry)) (now (list .exit)) (walkOf size n m d k budget state (now (list .entry)))) ⌝ }
 {
     let walked = walk::walk(state, size, n, m, d, k, list, budget);
     let reply = walked.reply;
@@ -86,6 +91,7 @@ pub extern "C" fn plokamyr_walk(
     Walked {
         reply: reply.number() as u32,
         count: walked.count,
+        visited: walked.visited,
         state,
     }
 }

@@ -134,20 +134,22 @@ module _ (rest end image list filled : List ℕ) (r : Reading) (n b m : ℕ) (ro
 
 -- ---- a walk
 
-pub walk-is : (s : State) (asked before after end image tail : List ℕ) (w : Walked) (size n m d k budget reply b count : ℕ)
+pub walk-is : (s : State) (asked before after end image tail : List ℕ) (w : Walked) (size n m d k budget reply b count visited : ℕ)
     → size ≡ getD asked 0 0 → n ≡ getD asked 1 0 → m ≡ getD asked 2 0 → d ≡ getD asked 3 0 → k ≡ getD asked 4 0 → budget ≡ numberAt 9 8 asked
     → w ≡ walkOf size n m d k budget s before → after ≡ wholeOf size n m d k budget s before .list → length after ≡ length before
     → reply ≡ numberOf (w .reply) → b ≡ getD asked 17 0 → reply ≡ b
     → count ≡ numberAt 18 8 asked → w .count ≡ count
-    → end ≡ drop 26 asked → image ≡ block end → imageOf (w .state) [] ≡ image
+    → visited ≡ numberAt 26 4 asked → w .visited ≡ visited
+    → end ≡ drop 30 asked → image ≡ block end → imageOf (w .state) [] ≡ image
     → tail ≡ pastBlock end → after ≡ parts value 8 (length after) tail
     → Walks s asked before
-walk-is s asked before after end image tail w size n m d k budget reply b count e0 e1 e2 e3 e4 e5 ew el same er eb tb ec tc ee ei h et hl =
+walk-is s asked before after end image tail w size n m d k budget reply b count visited e0 e1 e2 e3 e4 e5 ew el same er eb tb ec tc ev tv ee ei h et hl =
     let is : w ≡ walkedOf asked s before = ew ∙ rw (e0, e1, e2, e3, e4, e5) in
     let list : after ≡ listOf asked s before = el ∙ rw (e0, e1, e2, e3, e4, e5) in
     record {
       reply = ap (λ (x : Walked). numberOf (x .reply)) (sym is) ∙ sym er ∙ tb ∙ eb;
       count = ap (λ (x : Walked). x .count) (sym is) ∙ tc ∙ ec;
+      visited = ap (λ (x : Walked). x .visited) (sym is) ∙ tv ∙ ev;
       after = ap (λ (x : Walked). imageOf (x .state) []) (sym is) ∙ h ∙ ei ∙ ap block ee;
       places = sym list ∙ hl ∙ ap₂ (parts value 8) same (et ∙ ap pastBlock ee);
     }

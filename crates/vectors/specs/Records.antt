@@ -47,7 +47,7 @@ pub record ImageAgrees (rest : List ℕ) : Type 0 where
   pub reply : numberOf (readOf 4096 (block (drop 1 rest)) .reply) ≡ getD rest 0 0
   pub again : Whole (block (drop 1 rest)) → imageOf (stateOf (block (drop 1 rest))) (wordsOf (block (drop 1 rest))) ≡ block (drop 1 rest)
 
--- ---- a walk: an image; size, n, m, d, k (1 each), places (4), budget (8), reply (1), count (8), the image after, the list after
+-- ---- a walk: an image; size, n, m, d, k (1 each), places (4), budget (8), reply (1), count (8), visited (4), the image after, the list after
 
 abbrev pub walkedOf : List ℕ → State → List ℕ → Walked
 walkedOf asked s list = walkOf (getD asked 0 0) (getD asked 1 0) (getD asked 2 0) (getD asked 3 0) (getD asked 4 0) (numberAt 9 8 asked) s list
@@ -59,8 +59,9 @@ listOf asked s list = wholeOf (getD asked 0 0) (getD asked 1 0) (getD asked 2 0)
 pub record Walks (s : State) (asked list : List ℕ) : Type 0 where
   pub reply : numberOf (walkedOf asked s list .reply) ≡ getD asked 17 0
   pub count : walkedOf asked s list .count ≡ numberAt 18 8 asked
-  pub after : imageOf (walkedOf asked s list .state) [] ≡ block (drop 26 asked)
-  pub places : listOf asked s list ≡ parts value 8 (length list) (pastBlock (drop 26 asked))
+  pub visited : walkedOf asked s list .visited ≡ numberAt 26 4 asked
+  pub after : imageOf (walkedOf asked s list .state) [] ≡ block (drop 30 asked)
+  pub places : listOf asked s list ≡ parts value 8 (length list) (pastBlock (drop 30 asked))
 
 -- the list before
 abbrev pub unset : ℕ → List ℕ

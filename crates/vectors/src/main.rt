@@ -17,8 +17,8 @@ use registers::State;
 const RUN: u8 = 1;
 // The reply (1 byte), and an image, damaged or not.
 const IMAGE: u8 = 2;
-// The image of a state; size, n, m, d, k (1 byte each), places (4), budget (8), reply (1), count (8); the image of the state after, and the
-// list after (8 bytes a place).
+// The image of a state; size, n, m, d, k (1 byte each), places (4), budget (8), reply (1), count (8), visited (4); the image of the state
+// after, and the list after (8 bytes a place).
 const WALK: u8 = 3;
 
 // The largest number, which stands in each place of a list before a walk.
@@ -304,10 +304,10 @@ fn walk_is_whole(rest: &[u8]) -> bool {
         return false;
     }
     let asked = past_block(rest);
-    if asked.len() < 26 {
+    if asked.len() < 30 {
         return false;
     }
-    let end = after(asked, 26);
+    let end = after(asked, 30);
     if !has_block(end) {
         return false;
     }
@@ -410,7 +410,10 @@ fn walk_is(state: State, asked: &[u8], list: &mut [u64]) -> bool
     if walked.count != number_at(asked, 18, 8) {
         return false;
     }
-    let end = after(asked, 26);
+    if walked.visited as u64 != number_at(asked, 26, 4) {
+        return false;
+    }
+    let end = after(asked, 30);
     let last = walked.state;
     if !state_is(last, block(end)) {
         return false;

@@ -1,14 +1,14 @@
--- What holds of a walk that is not refused, and what it answers. Assumes nothing.
+-- What holds of a walk that is not refused. Assumes nothing.
 use mathlib.Core.Bool.{Bool, true, false, not, _||_}
 use mathlib.Core.List.{List}
-use mathlib.Core.Path.{_≡_, refl, sym, ap, _∙_}
-use Prim.Native.Nat.{ℕ, _^_, _<_}
+use mathlib.Core.Path.{_≡_, refl, sym, ap}
+use Prim.Native.Nat.{ℕ, _^_, _≤_, _<_}
 use native.Mathlib.Omega.{arith}
 use lib.Dec.{ltb, eqb}
 use lib.ListN.{length, getD}
 use mir.Syntax.{w64}
 use mir.Val.{Fits}
-use borrow.Author.Tests.{ltb-false, eqb-false, ne-eqb}
+use borrow.Author.Tests.{ltb-false, eqb-false}
 use Rattle.bits.specs.declared.Size.{Size}
 use Rattle.bits.specs.Choice.{pick}
 use Rattle.bits.proofs.Searches.{never}
@@ -22,8 +22,7 @@ use Rattle.replies.specs.Reply.{numberOf}
 use Rattle.registers.specs.State.{readX}
 use Rattle.registers.proofs.Legality.{legal-has, quads}
 use Rattle.words.specs.Words.{sizeOf}
-use Rattle.walk.specs.Plain.{run, begin}
-use Rattle.walk.specs.Walk.{Within, machineOf, walked, badRegisters, distance, refusalOf, wholeOf, walkOf}
+use Rattle.walk.specs.Walk.{badRegisters, distance, refusalOf}
 
 past : (b : Bool) (r x : Reply) → 0 < numberOf r → pick b r x ≡ R.Done → (b ≡ false) × (x ≡ R.Done)
 past true r x h e = absurd (omega (arith, ap numberOf e))
@@ -37,18 +36,38 @@ not-false : (b : Bool) → not b ≡ false → b ≡ true
 not-false true e = refl
 not-false false e = sym e
 
+-- what the types of a call's arguments say of its state
+pub record Typed (s : State) : Type 0 where
+  pub xs : length (s .x) ≡ 31
+  pub ps : length (s .p) ≡ 16
+  pub fits : (i : ℕ) → readX s i < 2 ^ 64
+
 pub x-fits : (s : State) → ((i : ℕ) → Fits w64 (getD (s .x) i 0)) → (i : ℕ) → readX s i < 2 ^ 64
 x-fits s h i = h i .fits
+
+-- what holds of a walk that is not refused
+pub record Within (size : Size) (n m d k : ℕ) (s : State) (l : List ℕ) : Type 0 where
+  pub n-below : n < 31
+  pub m-below : m < 32
+  pub other-x : m ≡ n → ⊥
+  pub d-below : d < 16
+  pub k-below : k < 16
+  pub other-p : d ≡ k → ⊥
+  pub xs : length (s .x) ≡ 31
+  pub ps : length (s .p) ≡ 16
+  pub lanes : 0 < elements (s .vl) size
+  pub start-fits : readX s n < 2 ^ 64
+  pub limit-fits : readX s m < 2 ^ 64
+  pub room : distance n m s ≤ length l
 
 lanes-there : (s : State) (size : Size) → legal s ≡ true → 0 < elements (s .vl) size
 lanes-there s size h =
     let q = quads (s .vl) (legal-has s h .len) in
     rw (q .1) (elements-pos (q .0) size (q .2) (q .3))
 
-pub accepted-within : (size n m d k : ℕ) (s : State) (l : List ℕ) → refusalOf size n m d k s (length l) ≡ R.Done → length (s .x) ≡ 31 → length (s .p) ≡ 16
-    → ((i : ℕ) → readX s i < 2 ^ 64) → Within (sizeOf size) n m d k s l
+pub accepted-within : (size n m d k : ℕ) (s : State) (l : List ℕ) → Typed s → refusalOf size n m d k s (length l) ≡ R.Done → Within (sizeOf size) n m d k s l
 unfolding refusalOf badRegisters
-accepted-within size n m d k s l e xs ps fits =
+accepted-within size n m d k s l typed e =
     let a = past (not (legal s)) R.IllegalState _ (omega arith) e in
     let b = past (badRegisters size n m d k) R.BadWalkRegisters _ (omega arith) (a .1) in
     let level = past (eqb (s .level) 0) R.LevelTooLow _ (omega arith) (b .1) in
@@ -69,35 +88,10 @@ accepted-within size n m d k s l e xs ps fits =
       d-below = omega (arith, ltb-false 15 d (d₁ .0));
       k-below = omega (arith, ltb-false 15 k (k₁ .0));
       other-p = eqb-false d k (nm .1);
-      xs = xs;
-      ps = ps;
+      xs = typed .xs;
+      ps = typed .ps;
       lanes = lanes-there s (sizeOf size) (not-false (legal s) (a .0));
-      start-fits = fits n;
-      limit-fits = fits m;
+      start-fits = typed .fits n;
+      limit-fits = typed .fits m;
       room = ltb-false (length l) (distance n m s) (room .0);
     }
-
--- ---- what is answered
-
-module _ (size n m d k budget : ℕ) (s : State) (l : List ℕ) where
-  abbrev refused : Reply
-  refused = refusalOf size n m d k s (length l)
-
-  pub whole-refused : (numberOf (refusalOf size n m d k s (length l)) ≡ 0 → ⊥) → wholeOf size n m d k budget s l .list ≡ l
-  unfolding wholeOf
-  whole-refused h = ap (λ (b : Bool). pick b (run (machineOf (sizeOf size) n m d k) budget (begin s l)) (begin s l) .list) (ne-eqb (numberOf refused) 0 h)
-
-  pub answer-refused : (r : Reply) → r ≡ refusalOf size n m d k s (length l) → (numberOf r ≡ 0 → ⊥) → record { reply = r; count = 0; state = s } ≡ walkOf size n m d k budget s l
-  unfolding walkOf
-  answer-refused r e h =
-      ap (λ (q : Reply). record { reply = q; count = 0; state = s }) e
-      ∙ sym (ap (λ (b : Bool). pick b (walked (wholeOf size n m d k budget s l)) (record { reply = refused; count = 0; state = s })) (ne-eqb (numberOf refused) 0 (λ q. h (ap numberOf e ∙ q))))
-
-  pub whole-accepted : refusalOf size n m d k s (length l) ≡ R.Done → wholeOf size n m d k budget s l ≡ run (machineOf (sizeOf size) n m d k) budget (begin s l)
-  unfolding wholeOf
-  whole-accepted e = ap (λ (r : Reply). pick (eqb (numberOf r) 0) (run (machineOf (sizeOf size) n m d k) budget (begin s l)) (begin s l)) e
-
-  pub answer-accepted : refusalOf size n m d k s (length l) ≡ R.Done → walkOf size n m d k budget s l ≡ walked (run (machineOf (sizeOf size) n m d k) budget (begin s l))
-  unfolding walkOf
-  answer-accepted e =
-      ap (λ (r : Reply). pick (eqb (numberOf r) 0) (walked (wholeOf size n m d k budget s l)) (record { reply = r; count = 0; state = s })) e ∙ ap walked (whole-accepted e)

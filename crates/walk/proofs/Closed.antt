@@ -7,11 +7,11 @@ use native.Mathlib.Decide.{decLt}
 use native.Mathlib.Nat.{add-zero, add-suc, suc-mul, zero-mul, le-of-lt, le-div-iff-mul-le}
 use native.Mathlib.Numerals.{add-one}
 use native.Mathlib.Omega.{arith}
-use lib.ListN.{length, getD, length-set}
+use lib.ListN.{set, length, getD, length-set}
 use lib.Seq.{getD-set-other, getD-set-same, ext-getD}
 use Rattle.walk.specs.declared.Phase.{Phase}
-use Rattle.walk.specs.declared.Phase.the-variants.{Select, Advance, Add}
-use Rattle.walk.specs.Plain.{Machine, Walk, begin, turn, run, rounds, budgetFor, visited}
+use Rattle.walk.specs.declared.Phase.the-variants.{Whilelo, Pnext, Incp}
+use Rattle.walk.specs.Plain.{WalkInstructions, Walk, begin, turn, run, rounds, budgetFor}
 use Rattle.walk.proofs.Runs.{run-add, run-ended, run-one, Later, later-run, later-refl}
 
 -- The lanes of a round that begins after `o` of `d` positions, with `e` lanes to a vector
@@ -20,7 +20,7 @@ lanesAt e d o = min e (d - o)
 
 -- What the walk needs of its instructions. `lane o j` is the state in the round that begins after `o` positions with the
 -- cursor on lane j - 1 (at 0: on none, as WHILELO left it); `Ready o` holds of the states from which that round's WHILELO may start.
-pub record Laws {S : Type 0} (m : Machine S) (s : S) (start d e : ℕ) (lane : ℕ → ℕ → S) (Ready : ℕ → S → Type 0) : Type 0 where
+pub record Laws {S : Type 0} (m : WalkInstructions S) (s : S) (start d e : ℕ) (lane : ℕ → ℕ → S) (Ready : ℕ → S → Type 0) : Type 0 where
   pub begins : Ready 0 (m .pfalse s)
   pub enters : (o : ℕ) (t : S) → o ≤ d → Ready o t → m .whilelo t ≡ lane o 0
   pub some : (o : ℕ) → o < d → m .zeroFlag (lane o 0) ≡ false
@@ -41,61 +41,66 @@ rounds-le d e h = elim (decLt (rounds d e * e) d) [ yes k ↦ absurd (more k) | 
     more : rounds d e * e < d → ⊥
     more k = omega (arith, le-div-iff-mul-le {x = suc (rounds d e)} {y = d + (e - 1)} h .1 (omega (arith, suc-mul (rounds d e) e)))
 
+-- the list with start, start + 1, .. at its first places
+unfoldable pub filled : ℕ → List ℕ → ℕ → List ℕ
+filled start l zero = l
+filled start l (suc k) = set (filled start l k) k (start + k)
+
 module _ (start : ℕ) (l : List ℕ) where
-  pub visited-length : (k : ℕ) → length (visited start l k) ≡ length l
-  unfolding visited
-  visited-length zero = refl
-  visited-length (suc k) = length-set (visited start l k) k (start + k) ∙ visited-length k
+  pub filled-length : (k : ℕ) → length (filled start l k) ≡ length l
+  unfolding filled
+  filled-length zero = refl
+  filled-length (suc k) = length-set (filled start l k) k (start + k) ∙ filled-length k
 
-  pub visited-past : (k i : ℕ) → k ≤ i → getD (visited start l k) i 0 ≡ getD l i 0
-  unfolding visited
-  visited-past zero i h = refl
-  visited-past (suc k) i h = getD-set-other (visited start l k) k i (start + k) 0 (omega arith) ∙ visited-past k i (le-of-lt h)
+  pub filled-past : (k i : ℕ) → k ≤ i → getD (filled start l k) i 0 ≡ getD l i 0
+  unfolding filled
+  filled-past zero i h = refl
+  filled-past (suc k) i h = getD-set-other (filled start l k) k i (start + k) 0 (omega arith) ∙ filled-past k i (le-of-lt h)
 
-  pub visited-at : (k i : ℕ) → i < k → k ≤ length l → getD (visited start l k) i 0 ≡ start + i
-  unfolding visited
-  visited-at zero i h q = absurd (omega arith)
-  visited-at (suc k) i h q = elim (decLt i k) [
-    | yes j ↦ getD-set-other (visited start l k) k i (start + k) 0 (omega arith) ∙ visited-at k i j (le-of-lt q)
-    | no j ↦ let same : i ≡ k = omega arith in rw same (getD-set-same (visited start l k) k (start + k) 0 (omega (arith, visited-length k)))
+  pub filled-at : (k i : ℕ) → i < k → k ≤ length l → getD (filled start l k) i 0 ≡ start + i
+  unfolding filled
+  filled-at zero i h q = absurd (omega arith)
+  filled-at (suc k) i h q = elim (decLt i k) [
+    | yes j ↦ getD-set-other (filled start l k) k i (start + k) 0 (omega arith) ∙ filled-at k i j (le-of-lt q)
+    | no j ↦ let same : i ≡ k = omega arith in rw same (getD-set-same (filled start l k) k (start + k) 0 (omega (arith, filled-length k)))
   ]
 
-module _ {S : Type 0} (m : Machine S) (s : S) (l : List ℕ) (start d e : ℕ) (lane : ℕ → ℕ → S) (Ready : ℕ → S → Type 0)
+module _ {S : Type 0} (m : WalkInstructions S) (s : S) (l : List ℕ) (start d e : ℕ) (lane : ℕ → ℕ → S) (Ready : ℕ → S → Type 0)
     (L : Laws m s start d e lane Ready) (pos : 0 < e) where
   -- The walk before instruction p, in state t after k positions and c instructions
   abbrev at : Phase → S → ℕ → ℕ → Walk S
-  at p t c k = record { state = t; list = visited start l k; count = c; next = p; ended = false; used = k }
+  at p t c k = record { state = t; list = filled start l k; count = c; visited = k; next = p; ended = false }
 
-  lanes : (o c j : ℕ) → o < d → j ≤ lanesAt e d o → run m j (at Advance (lane o 0) c o) ≡ at Advance (lane o j) (c + j) (o + j)
-  unfolding run visited
+  lanes : (o c j : ℕ) → o < d → j ≤ lanesAt e d o → run m j (at Pnext (lane o 0) c o) ≡ at Pnext (lane o j) (c + j) (o + j)
+  unfolding run filled
   lanes o c zero h k = rw (add-zero, add-zero)
   lanes o c (suc j) h k = rw (lanes o c j h (omega arith), L .next o j h (omega arith), L .hit o j h k, L .place o j h k, add-one, add-one, add-suc o j, add-suc c j)
 
-  enter : (o c : ℕ) (t : S) → o < d → Ready o t → run m 1 (at Select t c o) ≡ at Advance (lane o 0) (c + 1) o
+  enter : (o c : ℕ) (t : S) → o < d → Ready o t → run m 1 (at Whilelo t c o) ≡ at Pnext (lane o 0) (c + 1) o
   unfolding run
   enter o c t h r = rw (L .enters o t (omega arith) r, L .some o h)
 
-  pass : (o c k : ℕ) → o < d → turn m (at Advance (lane o (lanesAt e d o)) c k) ≡ at Add (lane o (suc (lanesAt e d o))) (c + 1) k
+  pass : (o c k : ℕ) → o < d → turn m (at Pnext (lane o (lanesAt e d o)) c k) ≡ at Incp (lane o (suc (lanesAt e d o))) (c + 1) k
   pass o c k h = rw (L .next o (lanesAt e d o) h (omega arith), L .miss o h)
 
   -- One round
   round : (o c : ℕ) (t : S) → o < d → Ready o t
-      → run m (lanesAt e d o + 3) (at Select t c o) ≡ at Select (m .incp (lane o (suc (lanesAt e d o)))) (c + (lanesAt e d o + 3)) (o + lanesAt e d o)
+      → run m (lanesAt e d o + 3) (at Whilelo t c o) ≡ at Whilelo (m .incp (lane o (suc (lanesAt e d o)))) (c + (lanesAt e d o + 3)) (o + lanesAt e d o)
   round o c t h r =
       let w = lanesAt e d o in
       let split : w + 3 ≡ 1 + w + 1 + 1 = omega arith in
       let counted : c + 1 + w + 1 + 1 ≡ c + (1 + w + 1 + 1) = omega arith in
       rw (split, run-one m, run-one m, run-add m 1 w, enter o c t h r, lanes o (c + 1) w h (omega arith), pass o (c + 1 + w) (o + w) h)
-      (ap (λ n. at Select (m .incp (lane o (suc w))) n (o + w)) counted)
+      (ap (λ n. at Whilelo (m .incp (lane o (suc w))) n (o + w)) counted)
 
   -- Before a WHILELO, after o positions and c instructions
   record Before (o c : ℕ) : Type 0 where
     state : S
     ready : Ready o state
-    reached : run m c (begin s l) ≡ at Select state c o
+    reached : run m c (begin s l) ≡ at Whilelo state c o
 
   first : Before 0 1
-  unfolding run visited
+  unfolding run filled
   first = record { state = m .pfalse s; ready = L .begins; reached = refl }
 
   more : (o c : ℕ) → o < d → Before o c → Before (o + lanesAt e d o) (c + (lanesAt e d o + 3))
@@ -138,7 +143,7 @@ module _ {S : Type 0} (m : Machine S) (s : S) (l : List ℕ) (start d e : ℕ) (
 
   -- The walk after it
   abbrev pub finished : Walk S
-  finished = record { state = lane d 0; list = visited start l d; count = budgetFor d e; next = Advance; ended = true; used = d }
+  finished = record { state = lane d 0; list = filled start l d; count = budgetFor d e; visited = d; next = Pnext; ended = true }
 
   pub at-end : run m (budgetFor d e) (begin s l) ≡ finished
   at-end =
@@ -175,21 +180,21 @@ module _ {S : Type 0} (m : Machine S) (s : S) (l : List ℕ) (start d e : ℕ) (
           rw same at (later-run m (budgetFor d e - b) (run m b (begin s l)))
 
   -- A PNEXT that finds a lane has a place in a list of at least d places
-  pub place-below : (b : ℕ) → (run m b (begin s l)) .ended ≡ false → (run m b (begin s l)) .next ≡ Advance
-      → m .zeroFlag (m .pnext ((run m b (begin s l)) .state)) ≡ false → (run m b (begin s l)) .used < d
+  pub place-below : (b : ℕ) → (run m b (begin s l)) .ended ≡ false → (run m b (begin s l)) .next ≡ Pnext
+      → m .zeroFlag (m .pnext ((run m b (begin s l)) .state)) ≡ false → (run m b (begin s l)) .visited < d
   place-below b q n z =
-      let one : (run m (b + 1) (begin s l)) .used ≡ (run m b (begin s l)) .used + 1 = rw (run-one m, q, n, z) in
+      let one : (run m (b + 1) (begin s l)) .visited ≡ (run m b (begin s l)) .visited + 1 = rw (run-one m, q, n, z) in
       omega (arith, toward-end (b + 1) .further)
 
   -- What the list holds under any budget
-  pub list-run : (b : ℕ) → d ≤ length l → (run m b (begin s l)) .list ≡ visited start l ((run m b (begin s l)) .used)
-  list-run b h = ext-getD 0 _ _ (later-run m b (begin s l) .as-long ∙ sym (visited-length start l _)) go
+  pub list-run : (b : ℕ) → d ≤ length l → (run m b (begin s l)) .list ≡ filled start l ((run m b (begin s l)) .visited)
+  list-run b h = ext-getD 0 _ _ (later-run m b (begin s l) .as-long ∙ sym (filled-length start l _)) go
     where
       w : Walk S
       w = run m b (begin s l)
 
-      go : (i : ℕ) → i < length (w .list) → getD (w .list) i 0 ≡ getD (visited start l (w .used)) i 0
-      go i k = elim (decLt i (w .used)) [
-        | yes j ↦ sym (toward-end b .kept i j) ∙ visited-at start l d i (omega (arith, toward-end b .further)) h ∙ sym (visited-at start l (w .used) i j (omega (arith, toward-end b .further)))
-        | no j ↦ later-run m b (begin s l) .beyond i (omega arith) ∙ sym (visited-past start l (w .used) i (omega arith))
+      go : (i : ℕ) → i < length (w .list) → getD (w .list) i 0 ≡ getD (filled start l (w .visited)) i 0
+      go i k = elim (decLt i (w .visited)) [
+        | yes j ↦ sym (toward-end b .kept i j) ∙ filled-at start l d i (omega (arith, toward-end b .further)) h ∙ sym (filled-at start l (w .visited) i j (omega (arith, toward-end b .further)))
+        | no j ↦ later-run m b (begin s l) .beyond i (omega arith) ∙ sym (filled-past start l (w .visited) i (omega arith))
       ]

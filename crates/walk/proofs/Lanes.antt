@@ -15,7 +15,7 @@ use Rattle.bits.specs.Bits.{elementBit}
 use Rattle.bits.specs.Choice.{pick}
 use Rattle.bits.specs.Search.{count, some, afterLast, firstFrom}
 use Rattle.bits.specs.Size.{shift}
-use Rattle.bits.proofs.Searches.{count-cong, some-yes, some-no, last-is, last-cong, first-cong}
+use Rattle.bits.proofs.Searches.{count-cong, some-yes, some-no, last-is, last-cong, first-is, first-cong}
 use Rattle.predicates.specs.declared.Flags.{Flags}
 use Rattle.predicates.specs.declared.Predicate.{Predicate}
 use Rattle.predicates.specs.PredTest.{predTest}
@@ -33,10 +33,11 @@ use Rattle.words.specs.declared.Target.the-variants.{One}
 use Rattle.machine.specs.Step.{executeOf}
 use Rattle.instructions.specs.Instructions.{nextElement, nextOf}
 use Rattle.instructions.proofs.Whiles.{spanFlags}
-use Rattle.walk.specs.declared.Phase.the-variants.{Advance}
+use Rattle.walk.specs.declared.Phase.the-variants as P
 use Rattle.walk.specs.Demand.{finalState}
 use Rattle.walk.specs.Plain.{Walk, run, begin}
-use Rattle.walk.specs.Walk.{Within, machineOf, positionOf, positionAt, distance}
+use Rattle.walk.specs.Walk.{instructionsOf, positionOf, positionAt, distance}
+use Rattle.walk.proofs.Accepted.{Within}
 use Rattle.walk.proofs.Closed.{Laws, lanesAt, place-below}
 use Rattle.walk.proofs.Executed.{executes-pfalse, executes-whilelo, executes-pnext, executes-incp}
 use Rattle.walk.proofs.Runs.{later-run}
@@ -133,6 +134,15 @@ module _ (vl : ℕ) (size : Size) where
 
   pub last-single : (j : ℕ) → j < E → afterLast (active (shift size) (single size j)) E ≡ suc j
   last-single j h = last-cong (active (shift size) (single size j)) (λ i. eqb i j) E (single-active j) ∙ last-of-one j E h
+
+  pub first-single : (j : ℕ) → j < E → firstFrom (active (shift size) (single size j)) 0 E ≡ j
+  first-single j h =
+      sym (first-is (active (shift size) (single size j)) 0 E j record {
+        from = omega arith;
+        upto = omega arith;
+        none = λ e _ q. single-active j e (omega arith) ∙ ne-eqb e j (λ z. omega arith);
+        hit = λ _. single-active j j h ∙ eq-eqb j j refl;
+      })
 
   lanes-count : (w : ℕ) → w ≤ E → count (active (shift size) (spanOf (shift size) 0 w)) E ≡ w
   lanes-count w h =
@@ -251,11 +261,11 @@ module _ (size : Size) (n m d k : ℕ) (s : State) where
         let pd = spanOf (shift size) 0 (lanesOf o) in
         let pk = cursor size j (lanesOf o) in
         let f = predTest (active (shift size) pd) (active (shift size) pk) (elements (s .vl) size) in
-        let last : afterLast (active (shift size) (readP (base s n d k x pd pk f) k)) (elements (s .vl) size) ≡ suc j =
-        ap (λ (p : Predicate). afterLast (active (shift size) p) (elements (s .vl) size)) (get-pk size n m d k s l g x pd pk f ∙ cursor-on size j (lanesOf o) q)
-        ∙ last-single (s .vl) size j (omega (arith, lanes-le o)) in
-        let same : x + (suc j - 1) ≡ readX s n + (o + j) = omega arith in
-        ap₂ (λ (a b : ℕ). (a + (b - 1)) % 2 ^ 64) (get-xn size n m d k s l g x pd pk f) last ∙ ap (λ (v : ℕ). v % 2 ^ 64) same ∙ mod-eq-of-lt (omega (arith, g .limit-fits))
+        let first : firstFrom (active (shift size) (readP (base s n d k x pd pk f) k)) 0 (elements (s .vl) size) ≡ j =
+        ap (λ (p : Predicate). firstFrom (active (shift size) p) 0 (elements (s .vl) size)) (get-pk size n m d k s l g x pd pk f ∙ cursor-on size j (lanesOf o) q)
+        ∙ first-single (s .vl) size j (omega (arith, lanes-le o)) in
+        let same : x + j ≡ readX s n + (o + j) = omega arith in
+        ap₂ (λ (a b : ℕ). (a + b) % 2 ^ 64) (get-xn size n m d k s l g x pd pk f) first ∙ ap (λ (v : ℕ). v % 2 ^ 64) same ∙ mod-eq-of-lt (omega (arith, g .limit-fits))
 
     adds : (o : ℕ) → o < distance n m s → Ready (o + lanesOf o) (executeOf (laneAt o (suc (lanesOf o))) (IncDec false size d n))
     unfolding withX withP withFlags
@@ -276,7 +286,7 @@ module _ (size : Size) (n m d k : ℕ) (s : State) where
               ∙ ap (λ (p : Predicate). base s n d k (readX s n + (o + w)) pd p f) (cursor-off size w w (omega arith)),
         )
 
-    pub laws : Laws (machineOf size n m d k) s (readX s n) (distance n m s) (elements (s .vl) size) laneAt Ready
+    pub laws : Laws (instructionsOf size n m d k) s (readX s n) (distance n m s) (elements (s .vl) size) laneAt Ready
     laws = record { begins = begins; enters = enters; some = some-left; none = none-left; next = next; hit = hit; miss = miss; place = place; adds = adds }
 
     -- the finished walk's state
@@ -291,13 +301,13 @@ module _ (size : Size) (n m d k : ℕ) (s : State) where
         (ap (λ (c : ℕ). spanOf (shift size) 0 c) none ∙ span-none (shift size))
 
     -- a PNEXT that finds an element has a place in the list
-    pub room : (b : ℕ) (w : Walk State) → run (machineOf size n m d k) b (begin s l) ≡ w → w .ended ≡ false → w .next ≡ Advance
-        → (executeOf (w .state) (Pnext size d k)) .flags .z ≡ false → w .used < length (w .list)
+    pub room : (b : ℕ) (w : Walk State) → run (instructionsOf size n m d k) b (begin s l) ≡ w → w .ended ≡ false → w .next ≡ P.Pnext
+        → (executeOf (w .state) (Pnext size d k)) .flags .z ≡ false → w .visited < length (w .list)
     room b w r q x z =
-        let M = machineOf size n m d k in
+        let M = instructionsOf size n m d k in
         let kept : length (w .list) ≡ length l = ap (λ (v : Walk State). length (v .list)) (sym r) ∙ later-run M b (begin s l) .as-long in
-        let used : run M b (begin s l) .used < distance n m s =
+        let used : run M b (begin s l) .visited < distance n m s =
         place-below M s l (readX s n) (distance n m s) (elements (s .vl) size) laneAt Ready laws (g .lanes) b (ap (λ (v : Walk State). v .ended) r ∙ q)
         (ap (λ (v : Walk State). v .next) r ∙ x) (ap (λ (v : Walk State). (executeOf (v .state) (Pnext size d k)) .flags .z) r ∙ z) in
-        let same : run M b (begin s l) .used ≡ w .used = ap (λ (v : Walk State). v .used) r in
+        let same : run M b (begin s l) .visited ≡ w .visited = ap (λ (v : Walk State). v .visited) r in
         omega (arith, g .room)

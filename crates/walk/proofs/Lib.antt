@@ -4,7 +4,10 @@ pub mod Closed
 pub mod Executed
 pub mod Lanes
 pub mod Demands
+pub mod Answered
+pub mod Lengths
 pub mod Outcomes
 pub mod Accepted
 pub mod Examples
 pub mod Turns
+pub mod Loop

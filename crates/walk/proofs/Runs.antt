@@ -10,10 +10,10 @@ use lib.ListN.{length, getD, length-set}
 use lib.Seq.{getD-set-other}
 use Rattle.bits.specs.Choice.{pick}
 use Rattle.walk.specs.declared.Phase.{Phase}
-use Rattle.walk.specs.declared.Phase.the-variants.{Clear, Select, Advance, Add}
-use Rattle.walk.specs.Plain.{Machine, Walk, begin, advanced, execute, turn, run}
+use Rattle.walk.specs.declared.Phase.the-variants.{Pfalse, Whilelo, Pnext, Incp}
+use Rattle.walk.specs.Plain.{WalkInstructions, Walk, begin, advanced, execute, turn, run}
 
-module _ {S : Type 0} (m : Machine S) where
+module _ {S : Type 0} (m : WalkInstructions S) where
   pub run-add : (a b : ℕ) (w : Walk S) → run m (a + b) w ≡ run m b (run m a w)
   unfolding run
   run-add a zero w = rw add-zero
@@ -30,10 +30,10 @@ module _ {S : Type 0} (m : Machine S) where
 
   -- `v` is `w` some instructions later: what was written stays, and what was not reached is as it was
   pub record Later (w v : Walk S) : Type 0 where
-    pub further : w .used ≤ v .used
+    pub further : w .visited ≤ v .visited
     pub as-long : length (v .list) ≡ length (w .list)
-    pub kept : (i : ℕ) → i < w .used → getD (v .list) i 0 ≡ getD (w .list) i 0
-    pub beyond : (i : ℕ) → v .used ≤ i → getD (v .list) i 0 ≡ getD (w .list) i 0
+    pub kept : (i : ℕ) → i < w .visited → getD (v .list) i 0 ≡ getD (w .list) i 0
+    pub beyond : (i : ℕ) → v .visited ≤ i → getD (v .list) i 0 ≡ getD (w .list) i 0
 
   pub later-refl : (w : Walk S) → Later w w
   later-refl w = record { further = omega arith; as-long = refl; kept = λ i h. refl; beyond = λ i h. refl }
@@ -50,16 +50,16 @@ module _ {S : Type 0} (m : Machine S) where
   later-advanced true s w = record { further = omega arith; as-long = refl; kept = λ i h. refl; beyond = λ i h. refl }
   later-advanced false s w = record {
     further = omega arith;
-    as-long = length-set (w .list) (w .used) (m .position s);
-    kept = λ i h. getD-set-other (w .list) (w .used) i (m .position s) 0 (omega arith);
-    beyond = λ i h. getD-set-other (w .list) (w .used) i (m .position s) 0 (omega arith);
+    as-long = length-set (w .list) (w .visited) (m .position s);
+    kept = λ i h. getD-set-other (w .list) (w .visited) i (m .position s) 0 (omega arith);
+    beyond = λ i h. getD-set-other (w .list) (w .visited) i (m .position s) 0 (omega arith);
   }
 
   later-execute : (p : Phase) (w : Walk S) → Later w (execute m p w)
-  later-execute Clear w = record { further = omega arith; as-long = refl; kept = λ i h. refl; beyond = λ i h. refl }
-  later-execute Select w = record { further = omega arith; as-long = refl; kept = λ i h. refl; beyond = λ i h. refl }
-  later-execute Advance w = later-advanced (m .zeroFlag (m .pnext (w .state))) (m .pnext (w .state)) w
-  later-execute Add w = record { further = omega arith; as-long = refl; kept = λ i h. refl; beyond = λ i h. refl }
+  later-execute Pfalse w = record { further = omega arith; as-long = refl; kept = λ i h. refl; beyond = λ i h. refl }
+  later-execute Whilelo w = record { further = omega arith; as-long = refl; kept = λ i h. refl; beyond = λ i h. refl }
+  later-execute Pnext w = later-advanced (m .zeroFlag (m .pnext (w .state))) (m .pnext (w .state)) w
+  later-execute Incp w = record { further = omega arith; as-long = refl; kept = λ i h. refl; beyond = λ i h. refl }
 
   later-pick : (z : Bool) (w v : Walk S) → Later w v → Later w (pick z w v)
   later-pick true w v h = later-refl w
@@ -75,10 +75,10 @@ module _ {S : Type 0} (m : Machine S) where
   count-advanced false s w = refl
 
   count-execute : (p : Phase) (w : Walk S) → (execute m p w) .count ≡ w .count + 1
-  count-execute Clear w = refl
-  count-execute Select w = refl
-  count-execute Advance w = count-advanced (m .zeroFlag (m .pnext (w .state))) (m .pnext (w .state)) w
-  count-execute Add w = refl
+  count-execute Pfalse w = refl
+  count-execute Whilelo w = refl
+  count-execute Pnext w = count-advanced (m .zeroFlag (m .pnext (w .state))) (m .pnext (w .state)) w
+  count-execute Incp w = refl
 
   count-pick : (z : Bool) (b : ℕ) (w v : Walk S) → (w .ended ≡ z) → (w .ended ≡ false → w .count ≡ b) → v .count ≡ w .count + 1
       → (pick z w v) .ended ≡ false → (pick z w v) .count ≡ suc b
@@ -93,8 +93,8 @@ module _ {S : Type 0} (m : Machine S) where
       let w = run m b (begin s l) in
       count-pick (w .ended) b w (execute m (w .next) w) refl (count-run b s l) (count-execute (w .next) w) e
 
-  pub walk-eq : {w v : Walk S} → w .state ≡ v .state → w .list ≡ v .list → w .count ≡ v .count → w .next ≡ v .next → w .ended ≡ v .ended → w .used ≡ v .used → w ≡ v
-  walk-eq a b c d e f = λ i. record { state = a i; list = b i; count = c i; next = d i; ended = e i; used = f i }
+  pub walk-eq : {w v : Walk S} → w .state ≡ v .state → w .list ≡ v .list → w .count ≡ v .count → w .visited ≡ v .visited → w .next ≡ v .next → w .ended ≡ v .ended → w ≡ v
+  walk-eq a b c d e f = λ i. record { state = a i; list = b i; count = c i; visited = d i; next = e i; ended = f i }
 
   -- One instruction more: what a turn of the loop shows
   pub one-more : (b : ℕ) (u w v : Walk S) → run m b u ≡ w → w .ended ≡ false → (p : Phase) → w .next ≡ p → execute m p w ≡ v → run m (b + 1) u ≡ v

@@ -28,10 +28,11 @@ use Rattle.instructions.specs.Instructions.{nextElement, nextOf}
 use Rattle.instructions.proofs.Searched.{next-none, next-none-flags, next-found, next-found-flags}
 use Rattle.instructions.proofs.Whiles.{spanFlags}
 use Rattle.walk.specs.declared.Phase.{Phase}
-use Rattle.walk.specs.declared.Phase.the-variants.{Clear, Select, Advance, Add}
-use Rattle.walk.specs.Walk.{Within, positionAt, positionOf}
+use Rattle.walk.specs.declared.Phase.the-variants as P
+use Rattle.walk.specs.Walk.{positionAt, positionOf}
+use Rattle.walk.proofs.Accepted.{Within}
 use Rattle.walk.proofs.Executed.{executes-pfalse, executes-held, executes-pnext, executes-incp}
-use Rattle.walk.proofs.Lanes.{base, sized, get-xn, get-xm, get-pk, get-pd, put-pk, put-pd, put-xn, last-single}
+use Rattle.walk.proofs.Lanes.{base, sized, get-xn, get-xm, get-pk, get-pd, put-pk, put-pd, put-xn, last-single, first-single}
 
 -- what is known of a round's lanes and of the cursor: the lowest bit of the lanes, the end of their bits, and the element from which PNEXT searches
 pub record Measured (vl : ℕ) (size : Size) (pd pk : Predicate) (low end from : ℕ) : Type 0 where
@@ -50,32 +51,24 @@ measures vl size pd pk v u w low end from live iu il ie iw is =
       from-is = is ∙ last-live vl size pk w (under w pk iw);
     }
 
-pub measured-as : {vl : ℕ} {size : Size} {pd pd′ pk pk′ : Predicate} {low low′ end end′ from from′ : ℕ} → pd′ ≡ pd → pk′ ≡ pk → low′ ≡ low → end′ ≡ end → from′ ≡ from
-    → Measured vl size pd pk low end from → Measured vl size pd′ pk′ low′ end′ from′
-measured-as {vl = vl} {size = size} ed ek el ee ef known = record {
-  low-is = el ∙ known .low-is ∙ ap (λ (p : Predicate). firstFrom (bitAt (pack (λ b. bitAt p b && bitAt (liveOf vl size) b))) 0 256) (sym ed);
-  end-is = ee ∙ known .end-is ∙ ap (λ (p : Predicate). afterLast (bitAt (pack (λ b. bitAt p b && bitAt (liveOf vl size) b))) 256) (sym ed);
-  from-is = ef ∙ known .from-is ∙ ap (λ (p : Predicate). afterLast (active (shift size) p) (elements vl size)) (sym ek);
-}
-
 -- the other phases are not PNEXT's
 number : Phase → ℕ
-number Clear = 0
-number Select = 1
-number Advance = 2
-number Add = 3
+number P.Pfalse = 0
+number P.Whilelo = 1
+number P.Pnext = 2
+number P.Incp = 3
 
-pub clear-not : Clear ≡ Advance → ⊥
+pub pfalse-not : P.Pfalse ≡ P.Pnext → ⊥
 unfolding number
-clear-not e = omega (arith, ap number e)
+pfalse-not e = omega (arith, ap number e)
 
-pub select-not : Select ≡ Advance → ⊥
+pub whilelo-not : P.Whilelo ≡ P.Pnext → ⊥
 unfolding number
-select-not e = omega (arith, ap number e)
+whilelo-not e = omega (arith, ap number e)
 
-pub add-not : Add ≡ Advance → ⊥
+pub incp-not : P.Incp ≡ P.Pnext → ⊥
 unfolding number
-add-not e = omega (arith, ap number e)
+incp-not e = omega (arith, ap number e)
 
 pub z-flag : (s : State) (n d k x : ℕ) (pd pk : Predicate) (f : Flags) → base s n d k x pd pk f .flags .z ≡ f .z
 unfolding withFlags
@@ -142,9 +135,8 @@ module _ (size : Size) (n m d k : ℕ) (s : State) (l : List ℕ) (g : Within si
       pub visits : e < i → (q : Predicate) (h : Flags) → q ≡ pack (spread (shift size) (λ j. eqb j e)) → positionOf size n k (base s n d k x pd q h) ≡ (x + e) % 2 ^ 64
       unfolding positionAt withX withP withFlags
       visits found q h iq =
-          let same : suc e - 1 ≡ e = omega arith in
-          ap₂ (λ (a : ℕ) (p : Predicate). (a + (afterLast (active (shift size) p) (elements (s .vl) size) - 1)) % 2 ^ 64) (get-xn size n m d k s l g x pd q h) (get-pk size n m d k s l g x pd q h ∙ iq)
-          ∙ ap (λ (j : ℕ). (x + (j - 1)) % 2 ^ 64) (last-single (s .vl) size e (omega (arith, elements-are))) ∙ ap (λ (j : ℕ). (x + j) % 2 ^ 64) same
+          ap₂ (λ (a : ℕ) (p : Predicate). (a + firstFrom (active (shift size) p) 0 (elements (s .vl) size)) % 2 ^ 64) (get-xn size n m d k s l g x pd q h) (get-pk size n m d k s l g x pd q h ∙ iq)
+          ∙ ap (λ (j : ℕ). (x + j) % 2 ^ 64) (first-single (s .vl) size e (omega (arith, elements-are)))
 
       pub measured-on : e < i → (q : Predicate) → q ≡ pack (spread (shift size) (λ j. eqb j e)) → Measured (s .vl) size pd q low end (e + 1)
       measured-on found q iq =

@@ -1,13 +1,12 @@
 -- The walk of the register state, with its refusals.
-use Prim.Native.Nat.{ℕ, _+_, _-_, _%_, _^_, _≤_, _<_}
-use mathlib.Core.Path.{_≡_}
+use Prim.Native.Nat.{ℕ, _+_, _-_, _%_, _^_}
 use mathlib.Core.Bool.{Bool, true, false, not, _||_}
 use mathlib.Core.List.{List}
 use lib.Dec.{ltb, eqb}
 use lib.ListN.{length}
 use Rattle.bits.specs.declared.Size.{Size}
 use Rattle.bits.specs.Choice.{pick}
-use Rattle.bits.specs.Search.{afterLast}
+use Rattle.bits.specs.Search.{firstFrom}
 use Rattle.bits.specs.Size.{shift}
 use Rattle.predicates.specs.declared.Predicate.{Predicate}
 use Rattle.predicates.specs.Predicate.{active, elements}
@@ -23,18 +22,18 @@ use Rattle.words.specs.declared.Instruction.the-variants.{While, IncDec, Pnext,
 use Rattle.words.specs.Words.{sizeOf}
 use Rattle.machine.specs.Step.{executeOf}
 use Rattle.walk.specs.declared.Walked.{Walked}
-use Rattle.walk.specs.Plain.{Machine, Walk, begin, run}
+use Rattle.walk.specs.Plain.{WalkInstructions, Walk, begin, run}
 
--- Xn plus the number of Pk's true element
+-- Xn plus the number of Pk's true element, in 64 bits
 unfoldable pub positionAt : Size → ℕ → Predicate → ℕ → ℕ
-positionAt size x cursor vl = (x + (afterLast (active (shift size) cursor) (elements vl size) - 1)) % 2 ^ 64
+positionAt size x cursor vl = (x + firstFrom (active (shift size) cursor) 0 (elements vl size)) % 2 ^ 64
 
 abbrev pub positionOf : Size → ℕ → ℕ → State → ℕ
 positionOf size n k s = positionAt size (readX s n) (readP s k) (s .vl)
 
 -- the four instructions as a step executes them
-abbrev pub machineOf : Size → ℕ → ℕ → ℕ → ℕ → Machine State
-machineOf size n m d k = record {
+abbrev pub instructionsOf : Size → ℕ → ℕ → ℕ → ℕ → WalkInstructions State
+instructionsOf size n m d k = record {
   pfalse = λ s. executeOf s (Pfalse k);
   whilelo = λ s. executeOf s (While Less true (One true d) size n m);
   pnext = λ s. executeOf s (Pnext size d k);
@@ -43,9 +42,13 @@ machineOf size n m d k = record {
   position = positionOf size n k;
 }
 
+-- the plain walk of a state with a list
+abbrev pub plainWalk : Size → ℕ → ℕ → ℕ → ℕ → ℕ → State → List ℕ → Walk State
+plainWalk size n m d k budget s l = run (instructionsOf size n m d k) budget (begin s l)
+
 -- the reply is 0 if it has ended, else 12
 abbrev pub walked : Walk State → Walked
-walked w = record { reply = pick (w .ended) Done BudgetSpent; count = w .count; state = w .state }
+walked w = record { reply = pick (w .ended) Done BudgetSpent; count = w .count; visited = w .visited; state = w .state }
 
 -- register number past 31 (X) or 15 (P), size past 3, n = 31, n = m, or d = k
 unfoldable pub badRegisters : ℕ → ℕ → ℕ → ℕ → ℕ → Bool
@@ -67,25 +70,10 @@ refusalOf size n m d k s places =
 -- the walk at its end; where it is refused, as it begins
 unfoldable pub wholeOf : ℕ → ℕ → ℕ → ℕ → ℕ → ℕ → State → List ℕ → Walk State
 wholeOf size n m d k budget s l =
-    pick (isDone (refusalOf size n m d k s (length l))) (run (machineOf (sizeOf size) n m d k) budget (begin s l)) (begin s l)
+    pick (isDone (refusalOf size n m d k s (length l))) (plainWalk (sizeOf size) n m d k budget s l) (begin s l)
 
--- the answer; a refusal carries its number, the given state, and count 0
+-- the answer; a refusal carries its number and the given state: no instruction was executed, no position visited
 unfoldable pub walkOf : ℕ → ℕ → ℕ → ℕ → ℕ → ℕ → State → List ℕ → Walked
 walkOf size n m d k budget s l =
     pick (isDone (refusalOf size n m d k s (length l))) (walked (wholeOf size n m d k budget s l))
-    (record { reply = refusalOf size n m d k s (length l); count = 0; state = s })
-
--- what holds of a walk that is not refused
-pub record Within (size : Size) (n m d k : ℕ) (s : State) (l : List ℕ) : Type 0 where
-  pub n-below : n < 31
-  pub m-below : m < 32
-  pub other-x : m ≡ n → ⊥
-  pub d-below : d < 16
-  pub k-below : k < 16
-  pub other-p : d ≡ k → ⊥
-  pub xs : length (s .x) ≡ 31
-  pub ps : length (s .p) ≡ 16
-  pub lanes : 0 < elements (s .vl) size
-  pub start-fits : readX s n < 2 ^ 64
-  pub limit-fits : readX s m < 2 ^ 64
-  pub room : distance n m s ≤ length l
+    (record { reply = refusalOf size n m d k s (length l); count = 0; visited = 0; state = s })

@@ -4,28 +4,27 @@ ghost use lib.ListN.{length};
 ghost use Rattle.bits.specs.Choice.{pick};
 ghost use Rattle.replies.specs.declared.Reply.the-variants.{Done, BudgetSpent};
 ghost use Rattle.words.specs.Words.{sizeOf};
-ghost use Rattle.walk.specs.Plain.{run, begin};
-ghost use Rattle.walk.specs.Walk.{Within, machineOf, walked, badRegisters, refusalOf, wholeOf, walkOf};
+ghost use Rattle.walk.specs.Walk.{plainWalk, walked, badRegisters, refusalOf, wholeOf, walkOf};
 ghost use Rattle.walk.specs.Demand.{Demand3};
-use bits::Size;
 use predicates::Flags;
 use predicates::Predicate;
 use registers::State;
 use replies::Reply;
 use scalars::Condition;
 
-// The instruction to come: PFALSE, WHILELO, PNEXT, INCP.
+// The instruction to come.
 pub enum Phase {
-    Clear,
-    Select,
-    Advance,
-    Add,
+    Pfalse,
+    Whilelo,
+    Pnext,
+    Incp,
 }
 
-// How many instructions were executed, and the state after them.
+// How many instructions were executed, how many positions they visited, and the state after them.
 pub struct Walked {
     pub reply: Reply,
     pub count: u64,
+    pub visited: usize,
     pub state: State,
 }
 
@@ -83,19 +82,21 @@ fn refusal(state: State, size: u32, n: u32, m: u32, d: u32, k: u32, places: usiz
     Reply::Done
 }
 
-fn answer(ended: bool, count: u64, state: State) -> Walked
-    ensures { λ r. ⌜ r ≡ record { reply = pick ended Done BudgetSpent; count = count; state = state } ⌝ }
+fn answer(ended: bool, count: u64, visited: usize, state: State) -> Walked
+    ensures { λ r. ⌜ r ≡ record { reply = pick ended Done BudgetSpent; count = count; visited = visited; state = state } ⌝ }
 {
     if ended {
         return Walked {
             reply: Reply::Done,
             count,
+            visited,
             state,
         };
     }
     Walked {
         reply: Reply::BudgetSpent,
         count,
+        visited,
         state,
     }
 }
@@ -103,18 +104,19 @@ fn answer(ended: bool, count: u64, state: State) -> Walked
 // The walk past its refusals, one instruction a turn. What it writes (Xn, Pd, Pk and the flags) is held apart, and put in the state at the end.
 fn plain(
     start: State,
-    size: Size,
-    n: u8,
-    m: u8,
-    d: u8,
-    k: u8,
+    size: u32,
+    n: u32,
+    m: u32,
+    d: u32,
+    k: u32,
     list: &mut [u64],
     budget: u64,
 ) -> Walked
-    requires { ⌜ Within size n m d k start (now list) ⌝ }
-    ensures answer { λ r. ⌜ r ≡ walked (run (machineOf size n m d k) budget (begin start (now (list .entry)))) ⌝ }
-    ensures places { λ r. ⌜ now (list .exit) ≡ run (machineOf size n m d k) budget (begin start (now (list .entry))) .list ⌝ }
+    requires { ⌜ refusalOf size n m d k start (length (now list)) ≡ Done ⌝ }
+    ensures answer { λ r. ⌜ r ≡ walked (plainWalk (sizeOf size) n m d k budget start (now (list .entry))) ⌝ }
+    ensures places { λ r. ⌜ now (list .exit) ≡ plainWalk (sizeOf size) n m d k budget start (now (list .entry)) .list ⌝ }
 {
+    let size = words::size_of(size);
     let elements = predicates::elements(start.vl, size);
     let live = Predicate::live(start.vl, size);
     let limit = start.read_x(m as u64);
@@ -126,17 +128,17 @@ fn plain(
     let mut low: u64 = 0;
     let mut end: u64 = 0;
     let mut next: u64 = 0;
-    let mut phase = Phase::Clear;
+    let mut phase = Phase::Pfalse;
     let mut ended = false;
-    let mut used: usize = 0;
+    let mut visited: usize = 0;
     let mut count: u64 = 0;
     while count < budget && !ended {
         match phase {
-            Phase::Clear => {
+            Phase::Pfalse => {
                 cursor = Predicate::none();
-                phase = Phase::Select;
+                phase = Phase::Whilelo;
             }
-            Phase::Select => {
+            Phase::Whilelo => {
                 let held = scalars::held(Condition::Less, true, true, x, limit, elements);
                 lanes = Predicate::first(size, held);
                 flags = Flags::of(instructions::while_flags(true, held, elements));
@@ -145,9 +147,9 @@ fn plain(
                 low = mask.lowest();
                 end = mask.after_highest();
                 next = cursor.and(live).end_element(size);
-                phase = Phase::Advance;
+                phase = Phase::Pnext;
             }
-            Phase::Advance => {
+            Phase::Pnext => {
                 let e = lanes.next_active(size, next, elements);
                 if elements <= e {
                     cursor = Predicate::none();
@@ -157,7 +159,7 @@ fn plain(
                         c: true,
                         v: false,
                     };
-                    phase = Phase::Add;
+                    phase = Phase::Incp;
                 } else {
                     let b = e << size.shift();
                     cursor = Predicate::only_element(size, e);
@@ -167,14 +169,14 @@ fn plain(
                         c: end != b + 1,
                         v: false,
                     };
-                    list[used] = std::num::wrapping_add_u64(x, e);
-                    used += 1;
+                    list[visited] = std::num::wrapping_add_u64(x, e);
+                    visited += 1;
                     next = e + 1;
                 }
             }
-            Phase::Add => {
+            Phase::Incp => {
                 x = std::num::wrapping_add_u64(x, lanes.and(live).count());
-                phase = Phase::Select;
+                phase = Phase::Whilelo;
             }
         }
         count += 1;
@@ -183,7 +185,7 @@ fn plain(
         .with_x(n as u64, x)
         .with_p(d as u64, lanes)
         .with_p(k as u64, cursor);
-    answer(ended, count, state.with_flags(flags))
+    answer(ended, count, visited, state.with_flags(flags))
 }
 
 // The walk from Xn to Xm with lanes Pd and cursor Pk: each position visited goes to the next place of `list`.
@@ -202,21 +204,13 @@ pub fn walk(
     ensures demand { λ r. ⌜ (refusalOf size n m d k state (length (now (list .entry))) ≡ Done → Demand3 (sizeOf size) n m d k budget state (now (list .entry)) (now (list .exit)) r) ⌝ }
 {
     let reply = refusal(state, size, n, m, d, k, list.len());
-    if reply.number() != 0 {
+    if !reply.is_done() {
         return Walked {
             reply,
             count: 0,
+            visited: 0,
             state,
         };
     }
-    plain(
-        state,
-        words::size_of(size),
-        n as u8,
-        m as u8,
-        d as u8,
-        k as u8,
-        list,
-        budget,
-    )
+    plain(state, size, n, m, d, k, list, budget)
 }

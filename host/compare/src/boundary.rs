@@ -33,7 +33,8 @@ pub fn run(state: &State, words: &[u32]) -> Ran {
 pub fn walk(route: &Route, list: &mut [u64]) -> Walked {
     let Route { state, size, n, m, d, k, budget, .. } = route;
     let walked = plokamyr::walk(&to_library(state), *size, *n, *m, *d, *k, list, *budget);
-    Walked { reply: number(walked.reply), count: walked.count, state: from_library(&walked.state) }
+    let (reply, state) = (number(walked.reply), from_library(&walked.state));
+    Walked { reply, count: walked.count, visited: walked.visited, state }
 }
 
 pub fn read(image: &[u8], words: &mut [u32]) -> Reading {

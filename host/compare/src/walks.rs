@@ -84,6 +84,7 @@ impl Kind for Walks {
         let mut differences = Differences::default();
         differences.field("reply", library.reply, second.reply);
         differences.field("count", library.count, second.count);
+        differences.field("visited", library.visited, second.visited);
         differences.state(&library.state, &second.state);
         differences.lent("list", &ours, &theirs);
         seen.reply(second.reply);

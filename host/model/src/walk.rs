@@ -9,6 +9,7 @@ use crate::words::{Row, INC_DEC, PFALSE, PNEXT, WHILE_ONE};
 pub struct Walked {
     pub reply: u8,
     pub count: u64,
+    pub visited: usize,
     pub state: State,
 }
 
@@ -31,7 +32,7 @@ enum Instruction {
 
 #[allow(clippy::too_many_arguments)] // the interface's own
 pub fn walk(state: &State, size: u32, n: u32, m: u32, d: u32, k: u32, list: &mut [u64], budget: u64) -> Walked {
-    let refused = |reply| Walked { reply, count: 0, state: state.clone() };
+    let refused = |reply| Walked { reply, count: 0, visited: 0, state: state.clone() };
     if !state.legal() {
         return refused(ILLEGAL_STATE);
     }
@@ -56,7 +57,7 @@ fn plain_walk(mut state: State, registers: &Registers, list: &mut [u64], budget:
     let mut to_come = Some(Instruction::Pfalse);
     while let Some(instruction) = to_come {
         if count == budget {
-            return Walked { reply: BUDGET_SPENT, count, state };
+            return Walked { reply: BUDGET_SPENT, count, visited, state };
         }
         execute(&mut state, &registers.row(&instruction));
         count += 1;
@@ -72,7 +73,7 @@ fn plain_walk(mut state: State, registers: &Registers, list: &mut [u64], budget:
             }
         };
     }
-    Walked { reply: DONE, count, state }
+    Walked { reply: DONE, count, visited, state }
 }
 
 impl Registers {

@@ -255,7 +255,7 @@ fn walks_that_finish() {
         let distance = limit.saturating_sub(start);
         let need = distance + 3 * distance.div_ceil(4) + 2;
         let (walked, list) = walk_s(start, limit, u64::MAX);
-        assert_eq!((walked.reply, walked.count), (0, need));
+        assert_eq!((walked.reply, walked.count, walked.visited as u64), (0, need, distance));
         assert_eq!(walked.state.x[1], start.max(limit));
         assert_eq!((walked.state.p[3], walked.state.p[4], walked.state.flags), (low(0), low(0), nzc(0, 1, 1)));
         let mut positions: Vec<u64> = (start..limit).collect();
@@ -269,11 +269,11 @@ fn walks_that_finish() {
 #[test]
 fn a_walk_cut_short() {
     let (walked, list) = walk_s(10, 13, 4); // PFALSE, WHILELO, PNEXT, PNEXT
-    assert_eq!((walked.reply, walked.count), (12, 4));
+    assert_eq!((walked.reply, walked.count, walked.visited), (12, 4, 2));
     assert_eq!(list, [10, 11, 77, 77, 77]);
     assert_eq!((walked.state.p[3], walked.state.p[4]), (low(0x0111), low(0x0010)));
     let (walked, list) = walk_s(10, 13, 0);
-    assert_eq!((walked.reply, walked.count, list), (12, 0, vec![77; 5]));
+    assert_eq!((walked.reply, walked.count, walked.visited, list), (12, 0, 0, vec![77; 5]));
 }
 
 #[test]

@@ -25,13 +25,14 @@ pub fn run(state: &State, words: &[u32]) -> Ran {
     Ran { reply, done, state }
 }
 
-/// What [`walk`] answers: `count` instructions were executed, and `state` is what they left.
-/// For a refusal other than 12, 0 and the given state.
+/// What [`walk`] answers: `count` instructions were executed, `visited` positions stand at the front of the list, and
+/// `state` is what they left. For a refusal other than 12: 0, 0 and the given state.
 #[derive(Clone, Debug, PartialEq, Eq)]
 #[must_use]
 pub struct Walked {
     pub reply: Reply,
     pub count: u64,
+    pub visited: usize,
     pub state: State,
 }
 
@@ -49,15 +50,15 @@ pub struct Walked {
 /// state.x[1] = 13;
 /// let mut list = [0; 4];
 /// let walked = walk(&state, 0, 0, 1, 0, 1, &mut list, 100);
-/// assert_eq!((walked.reply, walked.count), (Reply::Done, 3 + 3 + 2));
+/// assert_eq!((walked.reply, walked.count, walked.visited), (Reply::Done, 3 + 3 + 2, 3));
 /// assert_eq!(list, [10, 11, 12, 0]);
 /// ```
 #[allow(clippy::too_many_arguments)] // as in C and the papers
 pub fn walk(state: &State, size: u32, n: u32, m: u32, d: u32, k: u32, list: &mut [u64], budget: u64) -> Walked {
     let route = ffi::Route { size, n, m, d, k };
-    let ffi::Walked { reply, count, state } = ffi::walk(state, route, list, budget);
+    let ffi::Walked { reply, count, visited, state } = ffi::walk(state, route, list, budget);
     let reply = ffi::reply(reply);
-    Walked { reply, count, state }
+    Walked { reply, count, visited, state }
 }
 
 /// The most words that an image holds.

@@ -20,6 +20,7 @@ pub struct Ran {
 pub struct Walked {
     pub reply: Number,
     pub count: u64,
+    pub visited: usize,
     pub state: State,
 }
 
@@ -59,8 +60,9 @@ const _: () = {
     assert!(offset_of!(State, x) == 16 && offset_of!(State, p) == 264);
     assert!(size_of::<Ran>() == 792 && offset_of!(Ran, reply) == 0);
     assert!(offset_of!(Ran, done) == 8 && offset_of!(Ran, state) == 16);
-    assert!(size_of::<Walked>() == 792 && offset_of!(Walked, reply) == 0);
-    assert!(offset_of!(Walked, count) == 8 && offset_of!(Walked, state) == 16);
+    assert!(size_of::<Walked>() == 800 && offset_of!(Walked, reply) == 0);
+    assert!(offset_of!(Walked, count) == 8 && offset_of!(Walked, visited) == 16);
+    assert!(offset_of!(Walked, state) == 24);
     assert!(size_of::<Reading>() == 792 && offset_of!(Reading, reply) == 0);
     assert!(offset_of!(Reading, count) == 8 && offset_of!(Reading, state) == 16);
     assert!(size_of::<Written>() == 16 && offset_of!(Written, reply) == 0);

@@ -40,7 +40,7 @@ fn expect_no_walk(route: [u32; 5], places: usize, reply: Reply) {
     let [size, n, m, d, k] = route;
     let mut list = vec![7; places];
     let walked = walk(&state(), size, n, m, d, k, &mut list, 0);
-    assert_eq!((walked.reply, walked.count, walked.state), (reply, 0, state()));
+    assert_eq!((walked.reply, walked.count, walked.visited, walked.state), (reply, 0, 0, state()));
     assert!(list.iter().all(|place| *place == 7));
 }
 
@@ -63,7 +63,7 @@ fn walks() {
 fn a_spent_budget_keeps_its_work() {
     let mut list = [0; 3];
     let walked = walk(&state(), 0, 1, 2, 3, 4, &mut list, 4);
-    assert_eq!((walked.reply, walked.count, list), (Reply::BudgetSpent, 4, [10, 11, 0]));
+    assert_eq!((walked.reply, walked.count, walked.visited, list), (Reply::BudgetSpent, 4, 2, [10, 11, 0]));
     assert_eq!(walked.state.p[4], Predicate::from(0b10));
 }
 

@@ -1,5 +1,7 @@
 -- `plokamyr_walk` meets its contract. Assumes nothing.
 use borrow.Author.Needs.{needs}
+use denote.Ref.{now}
+use Rattle.walk.proofs.Answered.{demand-of}
 use Rattle.capi.proofs.plokamyr_walk.Statement.{statement}
 use Rattle.capi.proofs.plokamyr_walk.Tie as tie
 
@@ -16,7 +18,10 @@ same-length : tie.Need-same-length
 same-length c = search needs
 
 returns : tie.Need-returns
-returns c = (cc, search needs)
+returns c =
+    let w = c .before .before .before .before in
+    let a = w .before .before .before .args in
+    (cc, (search needs, demand-of (a .size) (a .n) (a .m) (a .d) (a .k) (a .budget) (a .state) (now (a .list)) (w .walk .ensures)))
 
 pub plokamyr-walk-spec : {M : Type 1} → statement M
 plokamyr-walk-spec =

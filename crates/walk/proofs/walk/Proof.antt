@@ -1,121 +1,49 @@
 -- `walk` meets its contract: what `plain` answers once nothing is refused, and demand 3 of it. Assumes nothing.
-use mathlib.Core.List.{List}
-use mathlib.Core.Path.{_≡_, sym, ap, subst, subst₂, _∙_}
-use Prim.Native.Nat.{ℕ, _<_, _^_}
-use lib.ListN.{length}
-use native.Mathlib.Omega.{arith}
 use borrow.Author.Needs.{needs}
-use Rattle.bits.specs.declared.Size.{Size}
-use Rattle.replies.specs.declared.Reply.the-variants.{Done}
-use Rattle.registers.specs.declared.State.{State}
-use Rattle.replies.specs.Reply.{numberOf}
-use Rattle.registers.specs.State.{readX}
-use Rattle.registers.proofs.Registers.{length-mapped}
-use Rattle.replies.proofs.Replies.{number-done}
-use Rattle.words.specs.Words.{sizeOf}
 use denote.Ref.{now}
-use Rattle.walk.specs.declared.Walked.{Walked}
-use Rattle.walk.specs.Demand.{Demand3}
-use Rattle.walk.specs.Plain.{Walk, run, begin}
-use Rattle.walk.specs.Walk.{Within, machineOf, walked, refusalOf}
-use Rattle.walk.proofs.Accepted.{x-fits, accepted-within, answer-refused, whole-refused, answer-accepted, whole-accepted}
-use Rattle.walk.proofs.Demands.{demand3}
+use Rattle.registers.proofs.Registers.{length-mapped}
+use Rattle.walk.proofs.Accepted.{Typed, x-fits}
+use Rattle.walk.proofs.Answered.{refused, not-refused, accepted}
 use Rattle.walk.proofs.walk.Statement.{statement}
 use Rattle.walk.proofs.walk.Tie as tie
 
--- what the arguments are, and what passing the refusals tells
-xs : (st : tie.Start) → length (st .args .state .x) ≡ 31
-xs st = search needs
+-- the places that the answers look back to
+abbrev entry : tie.After-is-done → tie.Start
+entry c = c .before .before .before
 
-ps : (st : tie.Start) → length (st .args .state .p) ≡ 16
-ps st = search (needs, length-mapped)
+abbrev passed : tie.After-slice-known2 → tie.Else1
+passed c = c .before .before .before .before
 
-fits : (st : tie.Start) (i : ℕ) → readX (st .args .state) i < 2 ^ 64
-fits st = search (needs, x-fits)
-
-within : (st : tie.Start) → let a = st .args in
-    refusalOf (a .size) (a .n) (a .m) (a .d) (a .k) (a .state) (length (now (a .list))) ≡ Done → Within (sizeOf (a .size)) (a .n) (a .m) (a .d) (a .k) (a .state) (now (a .list))
-within st e =
-    let a = st .args in
-    accepted-within (a .size) (a .n) (a .m) (a .d) (a .k) (a .state) (now (a .list)) e (xs st) (ps st) (fits st)
+typed : (st : tie.Start) → Typed (st .args .state)
+typed st = record { xs = search needs; ps = search (needs, length-mapped); fits = search (needs, x-fits) }
 
 refusal-requires : tie.Need-refusal-requires
 refusal-requires c κs = search needs
 
-number-requires : tie.Need-number-requires
-number-requires c κs = search needs
+is-done-requires : tie.Need-is-done-requires
+is-done-requires c κs = search needs
 
 returns : tie.Need-returns
 returns c =
-    let a = c .before .before .before .before .args in
-    let e = c .before .before .refusal .ensures in
-    let h : numberOf (c .before .before .refusal .result) ≡ 0 → ⊥ = λ q. c .if1 .taken (c .before .number .ensures ∙ q) in (
-      answer-refused (a .size) (a .n) (a .m) (a .d) (a .k) (a .budget) (a .state) (now (a .list)) _ e h,
-      (
-        sym (whole-refused (a .size) (a .n) (a .m) (a .d) (a .k) (a .budget) (a .state) (now (a .list)) (λ q. h (ap numberOf e ∙ q))),
-        λ q. absurd (h (ap numberOf (e ∙ q))),
-      ),
-    )
-
-size-of-requires : tie.Need-size-of-requires
-size-of-requires c κs = search needs
-
--- nothing is refused
-passed : (c : tie.After-size-of) → let a = c .before .before .before .before .before .args in
-    refusalOf (a .size) (a .n) (a .m) (a .d) (a .k) (a .state) (length (now (a .list))) ≡ Done
-passed c = sym (c .before .before .before .refusal .ensures) ∙ number-done _ (sym (c .before .before .number .ensures) ∙ c .before .if1 .left)
-
-cast-plain : tie.Need-cast-plain
-cast-plain c = omega (arith, within (c .before .before .before .before .before) (passed c) .n-below)
-
-cast-plain-2 : tie.Need-cast-plain-2
-cast-plain-2 c = omega (arith, within (c .before .before .before .before .before) (passed c) .m-below)
-
-cast-plain-3 : tie.Need-cast-plain-3
-cast-plain-3 c = omega (arith, within (c .before .before .before .before .before) (passed c) .d-below)
-
-cast-plain-4 : tie.Need-cast-plain-4
-cast-plain-4 c = omega (arith, within (c .before .before .before .before .before) (passed c) .k-below)
+    let a = entry (c .before) .args in
+    refused (a .size) (a .n) (a .m) (a .d) (a .k) (a .budget) (a .state) (now (a .list)) (c .before .before .refusal .ensures) (c .before .is-done .ensures) (c .if1 .taken)
 
 plain-requires : tie.Need-plain-requires
-plain-requires c κs =
-    let st = c .before .before .before .before .before .before in
-    let a = st .args in
-    let e = sym (c .before .before .before .before .refusal .ensures) ∙ number-done _ (sym (c .before .before .before .number .ensures) ∙ c .before .before .if1 .left) in
-    subst (λ (z : Size). Within z (a .n) (a .m) (a .d) (a .k) (a .state) (now (a .list))) (sym (c .before .size-of .ensures)) (within st e)
+plain-requires c κs = search (not-refused, needs) depth 9
 
 same-length : tie.Need-same-length
 same-length c = search needs
 
 returns-2 : tie.Need-returns-2
 returns-2 c =
-    let st = c .before .before .before .before .before .before .before .before .before in
+    let p = passed c in
+    let st = entry (p .before) in
     let a = st .args in
-    let e = sym (c .before .before .before .before .before .before .before .refusal .ensures)
-    ∙ number-done _ (sym (c .before .before .before .before .before .before .number .ensures) ∙ c .before .before .before .before .before .if1 .left) in
-    let z = c .before .before .before .before .size-of .ensures in
-    let r = c .before .before .plain .ensures .0 ∙ ap (λ (x : Size). walked (run (machineOf x (a .n) (a .m) (a .d) (a .k)) (a .budget) (begin (a .state) (now (a .list))))) z in
-    let l = c .before .before .plain .ensures .1 ∙ ap (λ (x : Size). run (machineOf x (a .n) (a .m) (a .d) (a .k)) (a .budget) (begin (a .state) (now (a .list))) .list) z in (
-      r ∙ sym (answer-accepted (a .size) (a .n) (a .m) (a .d) (a .k) (a .budget) (a .state) (now (a .list)) e),
-      (
-        l ∙ sym (ap (λ (w : Walk State). w .list) (whole-accepted (a .size) (a .n) (a .m) (a .d) (a .k) (a .budget) (a .state) (now (a .list)) e)),
-        λ _. subst₂ (λ (x : Walked) (y : List ℕ). Demand3 (sizeOf (a .size)) (a .n) (a .m) (a .d) (a .k) (a .budget) (a .state) (now (a .list)) y x) (sym r) (sym l)
-            (demand3 (sizeOf (a .size)) (a .n) (a .m) (a .d) (a .k) (a .state) (now (a .list)) (within st e) (a .budget)),
-      ),
-    )
+    let plain = c .before .before .plain in
+    accepted (a .size) (a .n) (a .m) (a .d) (a .k) (a .budget) (a .state) (now (a .list)) (plain .ensures .0) (plain .ensures .1) (typed st)
+    (not-refused (a .size) (a .n) (a .m) (a .d) (a .k) (a .budget) (a .state) (now (a .list)) (p .before .before .refusal .ensures) (p .before .is-done .ensures) (p .if1 .left))
 
 pub walk-spec : {M : Type 1} → statement M
 walk-spec =
     tie.close
-    (tie.spec
-    refusal-requires
-    number-requires
-    returns
-    size-of-requires
-    cast-plain
-    cast-plain-2
-    cast-plain-3
-    cast-plain-4
-    plain-requires
-    same-length
-    returns-2)
+    (tie.spec refusal-requires is-done-requires returns plain-requires same-length returns-2)

@@ -165,6 +165,7 @@ fn walk(file: &mut File, random: &mut Random) {
     rest.extend(route.budget.to_le_bytes());
     rest.push(walked.reply);
     rest.extend(walked.count.to_le_bytes());
+    rest.extend((walked.visited as u32).to_le_bytes());
     push_image(&mut rest, &walked.state, &[]);
     rest.extend(list.iter().flat_map(|place| place.to_le_bytes()));
     file.record(WALK, &rest);
