@@ -88,6 +88,14 @@ module _ (size : Size) (v dn : Predicate) (vl e n : ℕ) (found-is : e ≡ nextE
       ∙ sym (ap (λ (t : Bool). pick t (pack (spread (shift size) (λ i. eqb i (nextElement size v dn vl)))) allFalse)
       (lt-ltb (nextElement size v dn vl) (elements vl size) (omega (arith, found-is))))
 
+  -- the element that is found is active in the mask
+  pub next-found-bit : e < n → (w : Predicate) → w ≡ pack (λ b. bitAt v b && bitAt (liveOf vl size) b) → (b : ℕ) → b ≡ e * 2 ^ shift size → (b < 256) × (bitAt w b ≡ true)
+  next-found-bit h w masked b at =
+      let here : e < elements vl size = omega (arith, elements-are) in
+      let hit : active (shift size) v e ≡ true =
+      ap (active (shift size) v) found-is ∙ first-found (active (shift size) v) _ (elements vl size) (last-le (active (shift size) dn) (elements vl size)) .hit (omega (arith, found-is, elements-are)) in
+      (omega (arith, at, in-bits (shift size) (elements vl size) e here (elements-fit vl size)), ap (bitAt w) at ∙ active-live vl size v w masked e here hit)
+
   pub next-found-flags : e < n → (w : Predicate) → w ≡ pack (λ b. bitAt v b && bitAt (liveOf vl size) b) → (b : ℕ) → b ≡ e * 2 ^ shift size
       → predTest (bitAt w) (λ i. eqb i b) 256 ≡ predTest (active (shift size) v) (active (shift size) (nextResult size v dn vl)) (elements vl size)
   next-found-flags h w masked b at =

@@ -16,10 +16,11 @@ use Rattle.replies.specs.declared.Reply.the-variants.{Done, ListTooShort}
 use Rattle.registers.specs.declared.State.{State}
 use Rattle.registers.specs.Legal.{isLength, hasStrayBit, illegal}
 use Rattle.registers.specs.State.{readX, withX, withP, withFlags}
-use Rattle.machine.specs.Effect.{setFlags, apply}
-use Rattle.machine.specs.Step.{effectOf, executeOf}
-use Rattle.instructions.specs.Instructions.{whileOne, incDec, pnext, computeOf}
-use Rattle.instructions.specs.While.{allHeld, whileElement}
+use Rattle.machine.specs.Execute.{apply, executeOf}
+use Rattle.instructions.specs.Counts.{incDecOf}
+use Rattle.instructions.specs.Instructions.{computeOf}
+use Rattle.instructions.specs.Searches.{pnextOf}
+use Rattle.instructions.specs.Whiles.{allHeld, whileElement, whileOneOf}
 use Rattle.scalars.specs.While.{operandAt, comparison}
 use Rattle.walk.specs.Demand.{needed}
 use Rattle.walk.specs.Plain.{Walk, run}
@@ -85,6 +86,6 @@ module _ (l : List ℕ) (room : 37 ≤ length l) where
 
 -- doublewords from 5 to 8 with 2 lanes: 3 + 3 · 2 + 2 instructions
 pub walked-whole : plainWalk Sz.D 1 2 0 1 11 (start 128 5 8) (0 ∷ 0 ∷ 0 ∷ 7 ∷ []) .list ≡ 5 ∷ 6 ∷ 7 ∷ 7 ∷ []
-unfolding run positionAt executeOf effectOf computeOf whileOne pnext incDec apply setFlags withX withP withFlags flagsOf nzcv predTest atLowest atHighest
+unfolding run positionAt executeOf computeOf whileOneOf pnextOf incDecOf apply withX withP withFlags flagsOf nzcv predTest atLowest atHighest
     whileElement allHeld comparison operandAt elements predicateLength spread elementBit pack number active bitAt testBit count some afterLast scan
 walked-whole = refl

@@ -11,61 +11,58 @@ use borrow.Author.Tests.{lt-ltb, le-ltb}
 use Rattle.bits.specs.declared.Size.{Size}
 use Rattle.bits.specs.Search.{count}
 use Rattle.bits.specs.Size.{shift}
-use Rattle.bits.proofs.Searches.{digit-lt, first-is}
+use Rattle.bits.proofs.Searches.{first-is}
 use Rattle.predicates.specs.declared.Flags.{Flags}
 use Rattle.predicates.specs.declared.Predicate.{Predicate}
-use Rattle.predicates.specs.PredTest.{every, predTest, nzcv}
+use Rattle.predicates.specs.PredTest.{every, predTest}
 use Rattle.predicates.specs.Predicate.{allFalse, active, between, spanOf, spread, pack, elements}
-use Rattle.predicates.proofs.Flagging.{flags-back}
 use Rattle.registers.specs.declared.State.{State}
 use Rattle.registers.specs.State.{readX, readP, withX, withP, withFlags}
 use Rattle.registers.proofs.Registers.{Sized, withX-out, withP-out}
 use Rattle.scalars.specs.declared.Condition.the-variants.{Less}
 use Rattle.words.specs.declared.Instruction.the-variants.{While, IncDec, Pnext, Pfalse}
 use Rattle.words.specs.declared.Target.the-variants.{One}
-use Rattle.machine.specs.Effect.{setFlags, apply}
-use Rattle.machine.specs.Step.{effectOf, executeOf}
-use Rattle.machine.proofs.Frame.{flags-some}
-use Rattle.instructions.specs.Effect.{writesX, writesP, writesPF}
-use Rattle.instructions.specs.Instructions.{whileOne, incDec, nextOf, pnext, computeOf}
-use Rattle.instructions.specs.While.{whileElement}
+use Rattle.machine.specs.Execute.{apply, executeOf}
+use Rattle.instructions.specs.declared.operands.Registers.{Registers}
+use Rattle.instructions.specs.Counts.{incDecOf}
+use Rattle.instructions.specs.Effect.{givesX, givesP, givesPF}
+use Rattle.instructions.specs.Instructions.{computeOf}
+use Rattle.instructions.specs.Operands.{none}
+use Rattle.instructions.specs.Searches.{nextResult, pnextOf}
+use Rattle.instructions.specs.Whiles.{whileElement, whileOneOf, spanFlags}
 use Rattle.scalars.specs.Value.{lowOf}
 use Rattle.scalars.specs.While.{operandAt, comparison, heldOf}
-use Rattle.instructions.proofs.Whiles.{held-le, while-elements, span-flags, spanFlags}
+use Rattle.instructions.proofs.WhileLaws.{while-elements}
 
 -- ---- effects written
 
-nzcv-lt : (f : Flags) → nzcv f < 16
-unfolding nzcv
-nzcv-lt f = omega (arith, digit-lt (f .n), digit-lt (f .z), digit-lt (f .c), digit-lt (f .v))
+-- registers that are written; what is read does not matter
+abbrev writing : ℕ → ℕ → ℕ → ℕ → ℕ → ℕ → ℕ → Bool → Registers
+writing a b g p q rd pd sets = record { rn = a; rm = b; pg = g; pn = p; pm = q; rd = rd; pd = pd; pd2 = none; flags = sets }
 
-flags-set : (s : State) (f : Flags) → setFlags s (nzcv f) ≡ withFlags s f
-flags-set s f = sym (flags-some s (withFlags s f) (nzcv f) (nzcv-lt f) (ap (withFlags s) (sym (flags-back f))))
+module _ (s : State) (z : Sized s) (a b g p q : ℕ) where
+  no-p : (t : State) → length (t .p) ≡ 16 → withP t none allFalse ≡ t
+  no-p t e = sym (withP-out t none allFalse (omega (arith, e)))
 
-module _ (s : State) (z : Sized s) where
-  no-second : (t : State) → length (t .p) ≡ 16 → withP t 16 allFalse ≡ t
-  no-second t e = sym (withP-out t 16 allFalse (omega (arith, e)))
+  writes-x : (r v : ℕ) → apply s (writing a b g p q r none false) (givesX v) ≡ withX s r v
+  unfolding apply withX
+  writes-x r v = ap (λ (u : State). withP u none allFalse) (no-p (withX s r v) (z .ps)) ∙ no-p (withX s r v) (z .ps)
 
-  writes-x : (r v : ℕ) → apply s (writesX r v) ≡ withX s r v
-  unfolding apply setFlags withX
-  writes-x r v =
-      ap (λ (u : State). withP u 16 allFalse) (no-second (withX s r v) (z .ps)) ∙ no-second (withX s r v) (z .ps)
-
-  no-x : (f : Flags) → withX (withFlags s f) 31 0 ≡ withFlags s f
+  no-x : (f : Flags) → withX (withFlags s f) none 0 ≡ withFlags s f
   unfolding withFlags
-  no-x f = sym (withX-out (withFlags s f) 31 0 (omega (arith, z .xs)))
+  no-x f = sym (withX-out (withFlags s f) none 0 (omega (arith, z .xs)))
 
-  writes-p : (r : ℕ) (q : Predicate) → apply s (writesP r q) ≡ withP s r q
-  unfolding apply setFlags withP
-  writes-p r q =
-      ap (λ (u : State). withP (withP u r q) 16 allFalse) (sym (withX-out s 31 0 (omega (arith, z .xs))))
-      ∙ no-second (withP s r q) (length-set (s .p) r q ∙ z .ps)
+  writes-p : (r : ℕ) (o : Predicate) → apply s (writing a b g p q none r false) (givesP o) ≡ withP s r o
+  unfolding apply withP
+  writes-p r o =
+      ap (λ (u : State). withP (withP u r o) none allFalse) (sym (withX-out s none 0 (omega (arith, z .xs))))
+      ∙ no-p (withP s r o) (length-set (s .p) r o ∙ z .ps)
 
-  writes-pf : (r : ℕ) (q : Predicate) (f : Flags) → apply s (writesPF r q f) ≡ withP (withFlags s f) r q
+  writes-pf : (r : ℕ) (o : Predicate) (f : Flags) → apply s (writing a b g p q none r true) (givesPF o f) ≡ withP (withFlags s f) r o
   unfolding apply withP withFlags
-  writes-pf r q f =
-      ap (λ (u : State). withP (withP (withX u 31 0) r q) 16 allFalse) (flags-set s f) ∙ ap (λ (u : State). withP (withP u r q) 16 allFalse) (no-x f)
-      ∙ no-second (withP (withFlags s f) r q) (length-set (s .p) r q ∙ z .ps)
+  writes-pf r o f =
+      ap (λ (u : State). withP (withP u r o) none allFalse) (no-x f)
+      ∙ no-p (withP (withFlags s f) r o) (length-set (s .p) r o ∙ z .ps)
 
 -- ---- WHILELO's comparisons, where nothing wraps
 
@@ -95,19 +92,19 @@ module _ (a b : ℕ) (fits : b < 2 ^ 64) where
 
 module _ (s : State) (z : Sized s) (size : Size) where
   pub executes-pfalse : (k : ℕ) → executeOf s (Pfalse k) ≡ withP s k allFalse
-  unfolding executeOf effectOf computeOf
-  executes-pfalse k = writes-p s z k allFalse
+  unfolding executeOf computeOf
+  executes-pfalse k = writes-p s z none none none none none k allFalse
 
   pub executes-held : (n m d c : ℕ) → c ≡ heldOf (comparison w64 true Less (lowOf w64 (readX s n)) (lowOf w64 (readX s m))) (elements (s .vl) size)
       → executeOf s (While Less true (One true d) size n m) ≡ withP (withFlags s (spanFlags true c (elements (s .vl) size))) d (spanOf (shift size) 0 c)
-  unfolding executeOf effectOf computeOf whileOne
+  unfolding executeOf computeOf whileOneOf spanFlags
   executes-held n m d c is =
       let E = elements (s .vl) size in
       let held = comparison w64 true Less (lowOf w64 (readX s n)) (lowOf w64 (readX s m)) in
       let q : whileElement true held E ≡ between 0 c = while-elements held E c is true in
-      writes-pf s z d _ _
+      writes-pf s z n m none none none d _ _
       ∙ ap₂ (λ (p : Predicate) (f : Flags). withP (withFlags s f) d p) (ap (λ (x : ℕ → Bool). pack (spread (shift size) x)) q)
-      (ap (λ (x : ℕ → Bool). predTest every x E) q ∙ span-flags true c E (omega (arith, is, held-le held E)))
+      (ap (λ (x : ℕ → Bool). predTest every x E) q)
 
   pub executes-whilelo : (n m d a b c : ℕ) → readX s n ≡ a → readX s m ≡ b → a < 2 ^ 64 → b < 2 ^ 64 → c ≡ min (elements (s .vl) size) (b - a)
       → executeOf s (While Less true (One true d) size n m) ≡ withP (withFlags s (spanFlags true c (elements (s .vl) size))) d (spanOf (shift size) 0 c)
@@ -117,15 +114,15 @@ module _ (s : State) (z : Sized s) (size : Size) where
       (ec ∙ sym (held-is a b hb (elements (s .vl) size))
       ∙ ap₂ (λ (x y : ℕ). heldOf (comparison w64 true Less x y) (elements (s .vl) size)) (sym (low _ a ea ha)) (sym (low _ b eb hb)))
 
-  pub executes-pnext : (d k : ℕ) (v dn q : Predicate) → readP s d ≡ v → readP s k ≡ dn → q ≡ nextOf size v dn (s .vl)
+  pub executes-pnext : (d k : ℕ) (v dn q : Predicate) → readP s d ≡ v → readP s k ≡ dn → q ≡ nextResult size v dn (s .vl)
       → executeOf s (Pnext size d k) ≡ withP (withFlags s (predTest (active (shift size) v) (active (shift size) q) (elements (s .vl) size))) k q
-  unfolding executeOf effectOf computeOf pnext
+  unfolding executeOf computeOf pnextOf
   executes-pnext d k v dn q ev en eq =
-      writes-pf s z k _ _
-      ∙ ap₂ (λ (x y : Predicate). withP (withFlags s (predTest (active (shift size) x) (active (shift size) (nextOf size x y (s .vl))) (elements (s .vl) size))) k (nextOf size x y (s .vl))) ev en
+      writes-pf s z none none d k none k _ _
+      ∙ ap₂ (λ (x y : Predicate). withP (withFlags s (predTest (active (shift size) x) (active (shift size) (nextResult size x y (s .vl))) (elements (s .vl) size))) k (nextResult size x y (s .vl))) ev en
       ∙ ap (λ (x : Predicate). withP (withFlags s (predTest (active (shift size) v) (active (shift size) x) (elements (s .vl) size))) k x) (sym eq)
 
   pub executes-incp : (n d x : ℕ) → (readX s n + count (active (shift size) (readP s d)) (elements (s .vl) size)) % 2 ^ 64 ≡ x
       → executeOf s (IncDec false size d n) ≡ withX s n x
-  unfolding executeOf effectOf computeOf incDec
-  executes-incp n d x e = writes-x s z n _ ∙ ap (withX s n) e
+  unfolding executeOf computeOf incDecOf
+  executes-incp n d x e = writes-x s z n none none none d n _ ∙ ap (withX s n) e

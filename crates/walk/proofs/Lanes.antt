@@ -30,9 +30,10 @@ use Rattle.registers.proofs.Registers.{Sized}
 use Rattle.scalars.specs.declared.Condition.the-variants.{Less}
 use Rattle.words.specs.declared.Instruction.the-variants.{While, IncDec, Pnext, Pfalse}
 use Rattle.words.specs.declared.Target.the-variants.{One}
-use Rattle.machine.specs.Step.{executeOf}
-use Rattle.instructions.specs.Instructions.{nextElement, nextOf}
-use Rattle.instructions.proofs.Whiles.{spanFlags}
+use Rattle.machine.specs.Execute.{executeOf}
+use Rattle.instructions.specs.Searches.{nextElement, nextResult}
+use Rattle.instructions.specs.Whiles.{spanFlags}
+use Rattle.instructions.proofs.WhileLaws.{span-flags}
 use Rattle.walk.specs.declared.Phase.the-variants as P
 use Rattle.walk.specs.Demand.{finalState}
 use Rattle.walk.specs.Plain.{Walk, run, begin}
@@ -150,12 +151,12 @@ module _ (vl : ℕ) (size : Size) where
       count-cong (active (shift size) (spanOf (shift size) 0 w)) (between 0 w) E (lanes-active w) ∙ count-span 0 w E ∙ c
 
   -- PNEXT after j elements of w
-  next-is : (w j : ℕ) (dn : Predicate) → w ≤ E → j ≤ w → afterLast (active (shift size) dn) E ≡ j → cursor size j w ≡ nextOf size (spanOf (shift size) 0 w) dn vl
+  next-is : (w j : ℕ) (dn : Predicate) → w ≤ E → j ≤ w → afterLast (active (shift size) dn) E ≡ j → cursor size j w ≡ nextResult size (spanOf (shift size) 0 w) dn vl
   next-is w j dn h k e =
       let mask = active (shift size) (spanOf (shift size) 0 w) in
       let sought : nextElement size (spanOf (shift size) 0 w) dn vl ≡ firstFrom (between 0 w) j E =
       ap (λ (i : ℕ). firstFrom mask i E) e ∙ first-cong mask (between 0 w) j E (omega arith) (λ i _ q. lanes-active w i q) in
-      let found : (i : ℕ) → nextElement size (spanOf (shift size) 0 w) dn vl ≡ i → nextOf size (spanOf (shift size) 0 w) dn vl ≡ pick (ltb i E) (single size i) allFalse =
+      let found : (i : ℕ) → nextElement size (spanOf (shift size) 0 w) dn vl ≡ i → nextResult size (spanOf (shift size) 0 w) dn vl ≡ pick (ltb i E) (single size i) allFalse =
       λ i q. ap (λ (v : ℕ). pick (ltb v E) (single size v) allFalse) q in
       elim (decLt j w) [
         | yes q ↦ cursor-on size j w q ∙ sym (found j (sought ∙ first-in-span 0 w j E (omega arith) q (omega arith)) ∙ cursor-on size j E (omega arith))
@@ -295,7 +296,7 @@ module _ (size : Size) (n m d k : ℕ) (s : State) where
         let w = lanesOf (distance n m s) in
         let none : w ≡ 0 = omega arith in
         let top : readX s n + distance n m s ≡ max (readX s n) (readX s m) = omega arith in
-        let flags : spanFlags true w (elements (s .vl) size) ≡ record { n = false; z = true; c = true; v = false } = rw none in
+        let flags : spanFlags true w (elements (s .vl) size) ≡ record { n = false; z = true; c = true; v = false } = span-flags true w (elements (s .vl) size) 0 (omega arith) in
         ap₂ (λ (x : ℕ) (f : Flags). base s n d k x (spanOf (shift size) 0 w) allFalse f) top flags
         ∙ ap (λ (p : Predicate). base s n d k (max (readX s n) (readX s m)) p allFalse (record { n = false; z = true; c = true; v = false }))
         (ap (λ (c : ℕ). spanOf (shift size) 0 c) none ∙ span-none (shift size))

@@ -25,7 +25,7 @@ use Rattle.scalars.specs.declared.Condition.the-variants.{Less}
 use Rattle.scalars.specs.Value.{lowOf}
 use Rattle.scalars.specs.While.{comparison, heldOf}
 use Rattle.words.specs.Words.{sizeOf}
-use Rattle.instructions.proofs.Whiles.{spanFlags}
+use Rattle.instructions.specs.Whiles.{spanFlags}
 use Rattle.walk.specs.declared.Phase.{Phase}
 use Rattle.walk.specs.declared.Phase.the-variants.{Pfalse, Whilelo, Pnext, Incp}
 use Rattle.walk.specs.declared.Walked.{Walked}

@@ -13,8 +13,8 @@ use Rattle.bits.specs.Size.{shift}
 use Rattle.predicates.specs.declared.Flags.{Flags}
 use Rattle.predicates.specs.declared.Predicate.{Predicate}
 use Rattle.predicates.specs.PredTest.{predTest, nzcv, flagsOf}
-use Rattle.predicates.specs.Predicate.{bitAt, pack, allFalse, active, spread, spanOf, elements, liveOf}
-use Rattle.predicates.proofs.Flagging.{flags-back}
+use Rattle.predicates.specs.Predicate.{bitAt, pack, allFalse, active, touched, spread, spanOf, elements, liveOf}
+use Rattle.predicates.proofs.Flagging.{flags-back, only-tests}
 use Rattle.predicates.proofs.Live.{count-live, last-live}
 use Rattle.registers.specs.declared.State.{State}
 use Rattle.registers.specs.State.{readX, readP, withX, withP, withFlags}
@@ -23,10 +23,11 @@ use Rattle.words.specs.declared.Target.the-variants.{One}
 use Rattle.words.specs.declared.Instruction.the-variants.{While, IncDec, Pnext, Pfalse}
 use Rattle.scalars.specs.Value.{lowOf}
 use Rattle.scalars.specs.While.{comparison, heldOf}
-use Rattle.machine.specs.Step.{executeOf}
-use Rattle.instructions.specs.Instructions.{nextElement, nextOf}
-use Rattle.instructions.proofs.Searched.{next-none, next-none-flags, next-found, next-found-flags}
-use Rattle.instructions.proofs.Whiles.{spanFlags}
+use Rattle.machine.specs.Execute.{executeOf}
+use Rattle.instructions.specs.Searches.{nextElement, nextResult}
+use Rattle.instructions.specs.Whiles.{spanFlags}
+use Rattle.instructions.proofs.SearchLaws.{next-none, next-none-flags, next-found, next-found-bit, next-found-flags}
+use Rattle.instructions.proofs.WhileLaws.{held-le, span-flags}
 use Rattle.walk.specs.declared.Phase.{Phase}
 use Rattle.walk.specs.declared.Phase.the-variants as P
 use Rattle.walk.specs.Walk.{positionAt, positionOf}
@@ -41,7 +42,7 @@ pub record Measured (vl : ℕ) (size : Size) (pd pk : Predicate) (low end from :
   pub from-is : from ≡ afterLast (active (shift size) pk) (elements vl size)
 
 pub measures : (vl : ℕ) (size : Size) (pd pk v u w : Predicate) (low end from : ℕ) → v ≡ liveOf vl size → u ≡ pack (λ b. bitAt pd b && bitAt v b) → low ≡ firstFrom (bitAt u) 0 256
-    → end ≡ afterLast (bitAt u) 256 → w ≡ pack (λ b. bitAt pk b && bitAt v b) → from ≡ (afterLast (bitAt w) 256 + (2 ^ shift size - 1)) / 2 ^ shift size → Measured vl size pd pk low end from
+    → end ≡ afterLast (bitAt u) 256 → w ≡ pack (λ b. bitAt pk b && bitAt v b) → from ≡ afterLast (touched (shift size) w) 256 → Measured vl size pd pk low end from
 measures vl size pd pk v u w low end from live iu il ie iw is =
     let under : (p q : Predicate) → p ≡ pack (λ b. bitAt q b && bitAt v b) → p ≡ pack (λ b. bitAt q b && bitAt (liveOf vl size) b) =
     λ p q e. e ∙ ap (λ (r : Predicate). pack (λ b. bitAt q b && bitAt r b)) live in
@@ -97,7 +98,7 @@ module _ (size : Size) (n m d k : ℕ) (s : State) (l : List ℕ) (g : Within si
         ∙ ap₂ (λ (a b : ℕ). heldOf (comparison w64 true Less (lowOf w64 a) (lowOf w64 b)) (elements (s .vl) size)) (sym (get-xn size n m d k s l g x pd pk f)) (il ∙ sym (get-xm size n m d k s l g x pd pk f)) in (
           ap₂ (λ (p : Predicate) (y : Flags). base s n d k x p pk y) iq flags
               ∙ sym (executes-held here (sized size n m d k s l g x pd pk f) size n m d c held ∙ put-pd size n m d k s l g x pd pk f _ _),
-          ap (λ (y : Flags). y .z) flags,
+          ap (λ (y : Flags). y .z) (flags ∙ span-flags true c (elements (s .vl) size) c (omega (arith, held, held-le _ (elements (s .vl) size)))),
         )
 
     pub adds : (v w : Predicate) (c y : ℕ) → v ≡ liveOf (s .vl) size → w ≡ pack (λ b. bitAt pd b && bitAt v b) → c ≡ count (bitAt w) 256 → y ≡ (x + c) % 2 ^ 64
@@ -115,7 +116,7 @@ module _ (size : Size) (n m d k : ℕ) (s : State) (l : List ℕ) (g : Within si
       found-is = search-is ∙ ap₂ (λ (a b : ℕ). firstFrom (active (shift size) pd) a b) (known .from-is) elements-are
 
       abbrev next : Predicate
-      next = nextOf size pd pk (s .vl)
+      next = nextResult size pd pk (s .vl)
 
       advances : (q : Predicate) (h : Flags) → q ≡ next → h ≡ predTest (active (shift size) pd) (active (shift size) next) (elements (s .vl) size) → base s n d k x pd q h ≡ executeOf here (Pnext size d k)
       unfolding withX withP withFlags
@@ -130,7 +131,11 @@ module _ (size : Size) (n m d k : ℕ) (s : State) (l : List ℕ) (g : Within si
           → base s n d k x pd q (record { n = eqb low b; z = false; c = not (eqb end (b + 1)); v = false }) ≡ executeOf here (Pnext size d k)
       advances-to found q b iq at =
           advances q _ (iq ∙ next-found size pd pk (s .vl) e i found-is elements-are found)
-          ((λ j. record { n = eqb (known .low-is j) b; z = false; c = not (eqb (known .end-is j) (b + 1)); v = false }) ∙ next-found-flags size pd pk (s .vl) e i found-is elements-are found _ refl b at)
+          ((λ j. record { n = eqb (known .low-is j) b; z = false; c = not (eqb (known .end-is j) (b + 1)); v = false })
+          ∙ only-tests _ b (bit .0) (bit .1) ∙ next-found-flags size pd pk (s .vl) e i found-is elements-are found _ refl b at)
+        where
+          bit : (b < 256) × (bitAt (pack (λ j. bitAt pd j && bitAt (liveOf (s .vl) size) j)) b ≡ true)
+          bit = next-found-bit size pd pk (s .vl) e i found-is elements-are found _ refl b at
 
       pub visits : e < i → (q : Predicate) (h : Flags) → q ≡ pack (spread (shift size) (λ j. eqb j e)) → positionOf size n k (base s n d k x pd q h) ≡ (x + e) % 2 ^ 64
       unfolding positionAt withX withP withFlags

@@ -20,7 +20,7 @@ use Rattle.scalars.specs.declared.Condition.the-variants.{Less}
 use Rattle.words.specs.declared.Target.the-variants.{One}
 use Rattle.words.specs.declared.Instruction.the-variants.{While, IncDec, Pnext, Pfalse}
 use Rattle.words.specs.Words.{sizeOf}
-use Rattle.machine.specs.Step.{executeOf}
+use Rattle.machine.specs.Execute.{executeOf}
 use Rattle.walk.specs.declared.Walked.{Walked}
 use Rattle.walk.specs.Plain.{WalkInstructions, Walk, begin, run}
 
