@@ -74,24 +74,15 @@ pub as-left : {size : Size} {n m d k budget : ℕ} {s : State} {l : List ℕ} {v
     → v .flags ≡ h .flags → v .low ≡ h .low → v .end ≡ h .end → v .next ≡ h .next → v .phase ≡ h .phase → v .ended ≡ h .ended → v .visited ≡ h .visited → v .count ≡ h .count
     → Between size n m d k budget s l h → Between size n m d k budget s l v
 as-left {size = size} {n = n} {m = m} {d = d} {k = k} {budget = budget} {s = s} {l = l} e0 e1 e2 e3 e4 e5 e6 e7 e8 e9 e10 e11 b =
-    subst (Between size n m d k budget s l) (sym (λ i. record {
-      list = e0 i;
-      x = e1 i;
-      lanes = e2 i;
-      cursor = e3 i;
-      flags = e4 i;
-      low = e5 i;
-      end = e6 i;
-      next = e7 i;
-      phase = e8 i;
-      ended = e9 i;
-      visited = e10 i;
-      count = e11 i;
-    })) b
+    subst (Between size n m d k budget s l) (sym (λ i. record { list = e0 i; x = e1 i; lanes = e2 i; cursor = e3 i; flags = e4 i; low = e5 i; end = e6 i; next = e7 i; phase = e8 i; ended = e9 i; visited = e10 i; count = e11 i })) b
 
 -- the lowest bit of an element below the vector's end, as the code shifts it
 pub bit-at : (vl : ℕ) (size : Size) {e i j : ℕ} → j ≡ shift size → i ≡ elements vl size → e < i → (e * 2 ^ j) % 2 ^ 64 ≡ e * 2 ^ shift size
 bit-at vl size {e = e} ej ei h = ap (λ (x : ℕ). (e * 2 ^ x) % 2 ^ 64) ej ∙ shifted e (shift size) (omega (arith, elements-le vl size)) (shift-lt size)
+
+-- PNEXT's flags where it finds none
+abbrev none-left : Flags
+none-left = record { n = false; z = true; c = true; v = false }
 
 -- the first turn
 pub first-turn : {size : Size} {n m d k : ℕ} {s : State} {l : List ℕ} (budget : ℕ) → Within size n m d k s l → {x : ℕ} {lanes cursor : Predicate} → x ≡ readX s n → lanes ≡ readP s d → cursor ≡ readP s k
@@ -107,8 +98,14 @@ module _ {size : Size} {n m d k budget : ℕ} {s : State} {l : List ℕ} {h : Lo
   abbrev M : WalkInstructions State
   M = instructionsOf size n m d k
 
+  abbrev Holds : Locals → Type 0
+  Holds = Between size n m d k budget s l
+
+  abbrev walkAs : Locals → Walk State
+  walkAs = walkAt size n m d k budget s l
+
   abbrev w : Walk State
-  w = walkAt size n m d k budget s l h
+  w = walkAs h
 
   abbrev new : ℕ → Predicate → Predicate → Flags → State
   new = base s n d k
@@ -117,16 +114,16 @@ module _ {size : Size} {n m d k budget : ℕ} {s : State} {l : List ℕ} {h : Lo
   list-kept = ap (λ (v : Walk State). length (v .list)) (sym (b .reached)) ∙ later-run M (h .count) (begin s l) .as-long
 
   -- after the last turn
-  pub once-ended : not (h .ended) ≡ false → plainWalk size n m d k budget s l ≡ walkAt size n m d k budget s l h
+  pub once-ended : not (h .ended) ≡ false → plainWalk size n m d k budget s l ≡ walkAs h
   once-ended e = settled M (h .count) budget (begin s l) w (b .reached) (not-false (h .ended) e) (b .budgeted)
 
-  pub once-spent : budget ≤ h .count → plainWalk size n m d k budget s l ≡ walkAt size n m d k budget s l h
+  pub once-spent : budget ≤ h .count → plainWalk size n m d k budget s l ≡ walkAs h
   once-spent q =
       let same : budget ≡ h .count = omega (arith, b .budgeted) in
       ap (λ j. run M j (begin s l)) same ∙ b .reached
 
   -- the answer, by the number that names the size
-  pub answers : (number : ℕ) → size ≡ sizeOf number → plainWalk size n m d k budget s l ≡ walkAt size n m d k budget s l h
+  pub answers : (number : ℕ) → size ≡ sizeOf number → plainWalk size n m d k budget s l ≡ walkAs h
       → {s₁ s₂ s₃ s₄ : State} {r : Walked} → s₁ ≡ withX s n (h .x) → s₂ ≡ withP s₁ d (h .lanes) → s₃ ≡ withP s₂ k (h .cursor) → s₄ ≡ withFlags s₃ (h .flags)
       → r ≡ record { reply = pick (h .ended) Done BudgetSpent; count = h .count; visited = h .visited; state = s₄ }
       → (r ≡ walked (plainWalk (sizeOf number) n m d k budget s l)) × (h .list ≡ plainWalk (sizeOf number) n m d k budget s l .list)
@@ -141,29 +138,16 @@ module _ {size : Size} {n m d k budget : ℕ} {s : State} {l : List ℕ} {h : Lo
     on : h .ended ≡ false
     on = not-true (h .ended) goes
 
-    turned : (p : Phase) → h .phase ≡ p → (v : Locals) → v .count ≡ h .count + 1 → execute M p w ≡ walkAt size n m d k budget s l v
-        → (v .phase ≡ Pnext → Measured (s .vl) size (v .lanes) (v .cursor) (v .low) (v .end) (v .next)) → Between size n m d k budget s l v
+    turned : (p : Phase) → h .phase ≡ p → (v : Locals) → v .count ≡ h .count + 1 → execute M p w ≡ walkAs v
+        → (v .phase ≡ Pnext → Measured (s .vl) size (v .lanes) (v .cursor) (v .low) (v .end) (v .next)) → Holds v
     turned p ep v counted e measured = record {
       budgeted = omega arith;
-      reached = ap (λ j. run M j (begin s l)) counted ∙ one-more M (h .count) (begin s l) w (walkAt size n m d k budget s l v) (b .reached) on p ep e;
+      reached = ap (λ j. run M j (begin s l)) counted ∙ one-more M (h .count) (begin s l) w (walkAs v) (b .reached) on p ep e;
       measured = measured;
     }
 
     pub turn-pfalse : h .phase ≡ Pfalse → {q : Predicate} → q ≡ allFalse
-        → Between size n m d k budget s l (record {
-          list = h .list;
-          x = h .x;
-          lanes = h .lanes;
-          cursor = q;
-          flags = h .flags;
-          low = h .low;
-          end = h .end;
-          next = h .next;
-          phase = Whilelo;
-          ended = h .ended;
-          visited = h .visited;
-          count = h .count + 1;
-        })
+        → Holds (record { list = h .list; x = h .x; lanes = h .lanes; cursor = q; flags = h .flags; low = h .low; end = h .end; next = h .next; phase = Whilelo; ended = h .ended; visited = h .visited; count = h .count + 1 })
     turn-pfalse ep {q} eq =
         turned Pfalse ep _ refl
         (walk-eq M (sym (clears size n m d k s l g (h .x) (h .lanes) (h .cursor) (h .flags) q eq)) refl refl refl refl (sym on))
@@ -174,20 +158,7 @@ module _ {size : Size} {n m d k budget : ℕ} {s : State} {l : List ℕ} {h : Lo
         → c ≡ heldOf (comparison w64 true Less (lowOf w64 (h .x)) (lowOf w64 limit)) e → q ≡ spanOf (shift size) 0 c → z ≡ nzcv (spanFlags true c e) → f ≡ flagsOf z
         → u ≡ pack (λ i. bitAt q i && bitAt v i) → low ≡ firstFrom (bitAt u) 0 256 → end ≡ afterLast (bitAt u) 256
         → u′ ≡ pack (λ i. bitAt (h .cursor) i && bitAt v i) → from ≡ (afterLast (bitAt u′) 256 + (2 ^ shift size - 1)) / 2 ^ shift size
-        → Between size n m d k budget s l (record {
-          list = h .list;
-          x = h .x;
-          lanes = q;
-          cursor = h .cursor;
-          flags = f;
-          low = low;
-          end = end;
-          next = from;
-          phase = Pnext;
-          ended = eqb c 0;
-          visited = h .visited;
-          count = h .count + 1;
-        })
+        → Holds (record { list = h .list; x = h .x; lanes = q; cursor = h .cursor; flags = f; low = low; end = end; next = from; phase = Pnext; ended = eqb c 0; visited = h .visited; count = h .count + 1 })
     turn-whilelo ep {c = c} {f = f} il ie iv ic iq iz ih iu ilow iend iu′ ifrom =
         let et = selects size n m d k s l g (h .x) (h .lanes) (h .cursor) (h .flags) _ _ _ _ _ _ il ie ic iq iz ih in
         turned Whilelo ep _ refl
@@ -197,20 +168,7 @@ module _ {size : Size} {n m d k budget : ℕ} {s : State} {l : List ℕ} {h : Lo
 
     pub turn-incp : h .phase ≡ Incp → {v u : Predicate} {c y : ℕ} → v ≡ liveOf (s .vl) size → u ≡ pack (λ i. bitAt (h .lanes) i && bitAt v i) → c ≡ count (bitAt u) 256
         → y ≡ (h .x + c) % 2 ^ 64
-        → Between size n m d k budget s l (record {
-          list = h .list;
-          x = y;
-          lanes = h .lanes;
-          cursor = h .cursor;
-          flags = h .flags;
-          low = h .low;
-          end = h .end;
-          next = h .next;
-          phase = Whilelo;
-          ended = h .ended;
-          visited = h .visited;
-          count = h .count + 1;
-        })
+        → Holds (record { list = h .list; x = y; lanes = h .lanes; cursor = h .cursor; flags = h .flags; low = h .low; end = h .end; next = h .next; phase = Whilelo; ended = h .ended; visited = h .visited; count = h .count + 1 })
     turn-incp ep iv iu ic iy =
         turned Incp ep _ refl
         (walk-eq M (sym (adds size n m d k s l g (h .x) (h .lanes) (h .cursor) (h .flags) _ _ _ _ iv iu ic iy)) refl refl refl refl (sym on))
@@ -219,33 +177,19 @@ module _ {size : Size} {n m d k budget : ℕ} {s : State} {l : List ℕ} {h : Lo
     -- PNEXT, by the element that its search found among `i`
     module _ (ep : h .phase ≡ Pnext) {e i : ℕ} (ie : e ≡ firstFrom (active (shift size) (h .lanes)) (h .next) i) (ii : i ≡ elements (s .vl) size) where
       pub turn-past : i ≤ e → {q : Predicate} → q ≡ allFalse
-          → Between size n m d k budget s l (record {
-            list = h .list;
-            x = h .x;
-            lanes = h .lanes;
-            cursor = q;
-            flags = record { n = false; z = true; c = true; v = false };
-            low = h .low;
-            end = h .end;
-            next = h .next;
-            phase = Incp;
-            ended = h .ended;
-            visited = h .visited;
-            count = h .count + 1;
-          })
+          → Holds (record { list = h .list; x = h .x; lanes = h .lanes; cursor = q; flags = none-left; low = h .low; end = h .end; next = h .next; phase = Incp; ended = h .ended; visited = h .visited; count = h .count + 1 })
       turn-past past {q} iq =
-          let f : Flags = record { n = false; z = true; c = true; v = false } in
           let et = advances-past size n m d k s l g (h .x) (h .lanes) (h .cursor) (h .flags) _ _ _ e i (b .measured ep) ie ii past q iq in
           turned Pnext ep _ refl
-          (ap (λ (t : State). advanced M (t .flags .z) t w) (sym et) ∙ ap (λ (z : Bool). advanced M z (new (h .x) (h .lanes) q f) w) (z-flag s n d k _ _ _ f)
+          (ap (λ (t : State). advanced M (t .flags .z) t w) (sym et) ∙ ap (λ (z : Bool). advanced M z (new (h .x) (h .lanes) q none-left) w) (z-flag s n d k _ _ _ none-left)
           ∙ walk-eq M refl refl refl refl refl (sym on))
           (λ e. absurd (incp-not e))
 
       module _ (found : e < i) {q : Predicate} (iq : q ≡ pack (spread (shift size) (λ j. eqb j e))) {bit : ℕ} (ib : bit ≡ e * 2 ^ shift size) where
-        abbrev flags : Flags
-        flags = record { n = eqb (h .low) bit; z = false; c = not (eqb (h .end) (bit + 1)); v = false }
+        abbrev on-bit : Flags
+        on-bit = record { n = eqb (h .low) bit; z = false; c = not (eqb (h .end) (bit + 1)); v = false }
 
-        pnext-is : new (h .x) (h .lanes) q flags ≡ M .pnext (w .state)
+        pnext-is : new (h .x) (h .lanes) q on-bit ≡ M .pnext (w .state)
         pnext-is = advances-to size n m d k s l g (h .x) (h .lanes) (h .cursor) (h .flags) _ _ _ e i (b .measured ep) ie ii found q bit iq ib
 
         -- the list has a place for it
@@ -253,23 +197,10 @@ module _ {size : Size} {n m d k budget : ℕ} {s : State} {l : List ℕ} {h : Lo
         has-place = room size n m d k s l g (h .count) w (b .reached) on ep (ap (λ (t : State). t .flags .z) (sym pnext-is) ∙ z-flag s n d k _ _ _ _)
 
         pub turn-to : {y : ℕ} → y ≡ (h .x + e) % 2 ^ 64
-            → Between size n m d k budget s l (record {
-              list = set (h .list) (h .visited) y;
-              x = h .x;
-              lanes = h .lanes;
-              cursor = q;
-              flags = record { n = eqb (h .low) bit; z = false; c = not (eqb (h .end) (bit + 1)); v = false };
-              low = h .low;
-              end = h .end;
-              next = e + 1;
-              phase = h .phase;
-              ended = h .ended;
-              visited = h .visited + 1;
-              count = h .count + 1;
-            })
+            → Holds (record { list = set (h .list) (h .visited) y; x = h .x; lanes = h .lanes; cursor = q; flags = on-bit; low = h .low; end = h .end; next = e + 1; phase = h .phase; ended = h .ended; visited = h .visited + 1; count = h .count + 1 })
         turn-to {y} iy =
-            let place = visits size n m d k s l g (h .x) (h .lanes) (h .cursor) (h .flags) _ _ _ e i (b .measured ep) ie ii found q flags iq in
+            let place = visits size n m d k s l g (h .x) (h .lanes) (h .cursor) (h .flags) _ _ _ e i (b .measured ep) ie ii found q on-bit iq in
             turned Pnext ep _ refl
-            (ap (λ (t : State). advanced M (t .flags .z) t w) (sym pnext-is) ∙ ap (λ (z : Bool). advanced M z (new (h .x) (h .lanes) q flags) w) (z-flag s n d k _ _ _ flags)
+            (ap (λ (t : State). advanced M (t .flags .z) t w) (sym pnext-is) ∙ ap (λ (z : Bool). advanced M z (new (h .x) (h .lanes) q on-bit) w) (z-flag s n d k _ _ _ on-bit)
             ∙ walk-eq M refl (ap (set (h .list) (h .visited)) (place ∙ sym iy)) refl refl (sym ep) (sym on))
             (λ _. measured-on size n m d k s l g (h .x) (h .lanes) (h .cursor) (h .flags) _ _ _ e i (b .measured ep) ie ii found q iq)
