@@ -87,7 +87,7 @@ fn masking(pg: u8, pn: u8, pd: u8, flags: bool) -> Registers
     }
 }
 
-fn target(t: Target) -> u64
+fn target_of(t: Target) -> u64
     ensures { λ r. ⌜ r ≡ targetOf t ⌝ }
 {
     match t {
@@ -97,7 +97,7 @@ fn target(t: Target) -> u64
     }
 }
 
-fn second_target(t: Target) -> u64
+fn second_target_of(t: Target) -> u64
     ensures { λ r. ⌜ r ≡ secondTargetOf t ⌝ }
 {
     match t {
@@ -117,7 +117,7 @@ pub fn registers_of(i: Instruction) -> Registers
             rn,
             rm,
             ..
-        } => comparing(rn, rm, target(t), second_target(t)),
+        } => comparing(rn, rm, target_of(t), second_target_of(t)),
         Instruction::Saturating { pm, rdn, .. } => counting(rdn, NONE, NONE, pm, rdn),
         Instruction::IncDec { pm, rdn, .. } => counting(rdn, NONE, NONE, pm, rdn),
         Instruction::Cntp { pg, pn, rd, .. } => counting(NONE, pg, pn, NONE, rd),

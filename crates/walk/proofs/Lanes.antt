@@ -239,13 +239,15 @@ module _ (size : Size) (n m d k : ℕ) (s : State) where
         next-from o (suc j) (cursor size j (lanesOf o)) _ q
         (ap (λ (p : Predicate). afterLast (active (shift size) p) (elements (s .vl) size)) (cursor-on size j (lanesOf o) q) ∙ last-single (s .vl) size j (omega (arith, lanes-le o)))
 
-    some-left : (o : ℕ) → o < distance n m s → (laneAt o 0) .flags .z ≡ false
+    lanes-zero : (o : ℕ) → (laneAt o 0) .flags .z ≡ eqb (lanesOf o) 0
     unfolding withFlags
-    some-left o h = ne-eqb (lanesOf o) 0 (λ e. omega (arith, g .lanes))
+    lanes-zero o = ap (λ (f : Flags). f .z) (span-flags true (lanesOf o) (elements (s .vl) size) (lanesOf o) (omega (arith, lanes-le o)))
+
+    some-left : (o : ℕ) → o < distance n m s → (laneAt o 0) .flags .z ≡ false
+    some-left o h = lanes-zero o ∙ ne-eqb (lanesOf o) 0 (λ e. omega (arith, g .lanes))
 
     none-left : (laneAt (distance n m s) 0) .flags .z ≡ true
-    unfolding withFlags
-    none-left = eq-eqb (lanesOf (distance n m s)) 0 (omega arith)
+    none-left = lanes-zero (distance n m s) ∙ eq-eqb (lanesOf (distance n m s)) 0 (omega arith)
 
     hit : (o j : ℕ) → o < distance n m s → j < lanesOf o → (laneAt o (suc j)) .flags .z ≡ false
     unfolding withFlags

@@ -16,7 +16,7 @@ use Rattle.bits.proofs.Sizes.{shift-lt, shifted}
 use Rattle.predicates.specs.declared.Flags.{Flags}
 use Rattle.predicates.specs.declared.Predicate.{Predicate}
 use Rattle.predicates.specs.PredTest.{nzcv, flagsOf}
-use Rattle.predicates.specs.Predicate.{bitAt, pack, allFalse, active, spread, spanOf, elements, liveOf}
+use Rattle.predicates.specs.Predicate.{bitAt, pack, allFalse, active, touched, spread, spanOf, elements, liveOf}
 use Rattle.predicates.proofs.Live.{elements-le}
 use Rattle.registers.specs.declared.State.{State}
 use Rattle.replies.specs.declared.Reply.the-variants.{Done, BudgetSpent}
@@ -157,7 +157,7 @@ module _ {size : Size} {n m d k budget : ℕ} {s : State} {l : List ℕ} {h : Lo
         → limit ≡ readX s m → e ≡ elements (s .vl) size → v ≡ liveOf (s .vl) size
         → c ≡ heldOf (comparison w64 true Less (lowOf w64 (h .x)) (lowOf w64 limit)) e → q ≡ spanOf (shift size) 0 c → z ≡ nzcv (spanFlags true c e) → f ≡ flagsOf z
         → u ≡ pack (λ i. bitAt q i && bitAt v i) → low ≡ firstFrom (bitAt u) 0 256 → end ≡ afterLast (bitAt u) 256
-        → u′ ≡ pack (λ i. bitAt (h .cursor) i && bitAt v i) → from ≡ (afterLast (bitAt u′) 256 + (2 ^ shift size - 1)) / 2 ^ shift size
+        → u′ ≡ pack (λ i. bitAt (h .cursor) i && bitAt v i) → from ≡ afterLast (touched (shift size) u′) 256
         → Holds (record { list = h .list; x = h .x; lanes = q; cursor = h .cursor; flags = f; low = low; end = end; next = from; phase = Pnext; ended = eqb c 0; visited = h .visited; count = h .count + 1 })
     turn-whilelo ep {c = c} {f = f} il ie iv ic iq iz ih iu ilow iend iu′ ifrom =
         let et = selects size n m d k s l g (h .x) (h .lanes) (h .cursor) (h .flags) _ _ _ _ _ _ il ie ic iq iz ih in

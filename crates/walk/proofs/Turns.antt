@@ -98,7 +98,7 @@ module _ (size : Size) (n m d k : ℕ) (s : State) (l : List ℕ) (g : Within si
         ∙ ap₂ (λ (a b : ℕ). heldOf (comparison w64 true Less (lowOf w64 a) (lowOf w64 b)) (elements (s .vl) size)) (sym (get-xn size n m d k s l g x pd pk f)) (il ∙ sym (get-xm size n m d k s l g x pd pk f)) in (
           ap₂ (λ (p : Predicate) (y : Flags). base s n d k x p pk y) iq flags
               ∙ sym (executes-held here (sized size n m d k s l g x pd pk f) size n m d c held ∙ put-pd size n m d k s l g x pd pk f _ _),
-          ap (λ (y : Flags). y .z) (flags ∙ span-flags true c (elements (s .vl) size) c (omega (arith, held, held-le _ (elements (s .vl) size)))),
+          ap (λ (y : Flags). y .z) (flags ∙ span-flags true c (elements (s .vl) size) c (omega (arith, held, held-le (comparison w64 true Less (lowOf w64 (readX here n)) (lowOf w64 (readX here m))) (elements (s .vl) size)))),
         )
 
     pub adds : (v w : Predicate) (c y : ℕ) → v ≡ liveOf (s .vl) size → w ≡ pack (λ b. bitAt pd b && bitAt v b) → c ≡ count (bitAt w) 256 → y ≡ (x + c) % 2 ^ 64

@@ -7,11 +7,11 @@ use Rattle.instructions.proofs.operands.registers_of.Tie as tie
 enum-known-i : tie.Need-enum-known-i
 enum-known-i c = search needs
 
-target-requires : tie.Need-target-requires
-target-requires c κs = search needs
+target-of-requires : tie.Need-target-of-requires
+target-of-requires c κs = search needs
 
-second-target-requires : tie.Need-second-target-requires
-second-target-requires c κs = search needs
+second-target-of-requires : tie.Need-second-target-of-requires
+second-target-of-requires c κs = search needs
 
 comparing-requires : tie.Need-comparing-requires
 comparing-requires c κs = search needs
@@ -96,8 +96,8 @@ registers-of-spec =
     tie.close
     (tie.spec
     enum-known-i
-    target-requires
-    second-target-requires
+    target-of-requires
+    second-target-of-requires
     comparing-requires
     enum-known-i-2
     counting-requires

@@ -1,9 +1,9 @@
--- `second_target` meets its contract. Assumes nothing.
+-- `second_target_of` meets its contract. Assumes nothing.
 use mathlib.Core.Path.{sym, ap}
 use borrow.Author.Needs.{needs}
 use Rattle.instructions.specs.Operands.{secondTargetOf}
-use Rattle.instructions.proofs.operands.second_target.Statement.{statement}
-use Rattle.instructions.proofs.operands.second_target.Tie as tie
+use Rattle.instructions.proofs.operands.second_target_of.Statement.{statement}
+use Rattle.instructions.proofs.operands.second_target_of.Tie as tie
 
 enum-told : tie.Need-enum-told
 enum-told c = search needs
@@ -38,8 +38,8 @@ returns-2 c = sym (ap secondTargetOf (c .before .t .given .1))
 returns-3 : tie.Need-returns-3
 returns-3 c = search needs
 
-pub second-target-spec : {M : Type 1} → statement M
-second-target-spec =
+pub second-target-of-spec : {M : Type 1} → statement M
+second-target-of-spec =
     tie.close
     (tie.spec
     enum-told
