@@ -1,6 +1,10 @@
 -- The answers as C has them: each reply by its number, all else as it is.
+use Prim.Native.Nat.{ℕ}
+use mathlib.Core.List.{List}
+use mathlib.Core.Path.{_≡_}
 use Rattle.replies.specs.Reply.{numberOf}
-use Rattle.machine.specs.declared.Ran as Machine
+use Rattle.registers.specs.declared.State.{State}
+use Rattle.machine.specs.Step.{stepOf, runOf}
 use Rattle.walk.specs.declared.Walked as Walk
 use Rattle.image.specs.declared.Reading as Image
 use Rattle.image.specs.declared.Written as Image′
@@ -9,8 +13,16 @@ use Rattle.capi.specs.declared.Walked.{Walked}
 use Rattle.capi.specs.declared.Reading.{Reading}
 use Rattle.capi.specs.declared.Written.{Written}
 
-abbrev pub ranAs : Machine.Ran → Ran
-ranAs r = record { reply = numberOf (r .reply); done = r .done; state = r .state }
+-- a step and a run where the state stands: the answer, and the state before and after
+pub record SteppedParts (answer word : ℕ) (before after : State) : Type 0 where
+  pub reply : answer ≡ numberOf (stepOf before word .reply)
+  pub state : after ≡ stepOf before word .state
+
+pub record RanParts (answer : Ran) (words : List ℕ) (before after : State) : Type 0 where
+  pub reply : answer .reply ≡ numberOf (runOf before words .reply)
+  pub refused : answer .refused ≡ numberOf (runOf before words .refused)
+  pub done : answer .done ≡ runOf before words .done
+  pub state : after ≡ runOf before words .state
 
 abbrev pub walkedAs : Walk.Walked → Walked
 walkedAs r = record { reply = numberOf (r .reply); count = r .count; visited = r .visited; state = r .state }

@@ -4,24 +4,25 @@ ghost use lib.ListN.{length};
 ghost use Rattle.replies.specs.declared.Reply.the-variants.{Done};
 ghost use Rattle.replies.specs.Reply.{numberOf};
 ghost use Rattle.words.specs.Words.{sizeOf};
-ghost use Rattle.machine.specs.Step.{runOf, stepOf};
+ghost use Rattle.registers.specs.Parts.{stateAt};
+ghost use Rattle.machine.specs.Step.{stepOf};
 ghost use Rattle.walk.specs.Walk.{refusalOf, walkOf, wholeOf};
 ghost use Rattle.walk.specs.Demand.{Demand3};
 ghost use Rattle.image.specs.Reading.{readOf, listAfter};
 ghost use Rattle.image.specs.Writing.{writtenOf, bufferAfter};
 ghost use Rattle.transcript.specs.Transcript.{transcriptOf, afterAll, placedAll};
-ghost use Rattle.capi.specs.Answers.{ranAs, walkedAs, readAs, writtenAs};
+ghost use Rattle.capi.specs.Answers.{SteppedParts, RanParts, walkedAs, readAs, writtenAs};
 ghost use Rattle.words.specs.Rows.{decodedReply, decodedRow, encodedReply, encodedWord};
-use machine::Machine;
 use registers::State;
+use registers::parts::Settings;
 use words::Decoded;
 use words::Encoded;
 
 #[repr(C)]
 pub struct Ran {
     pub reply: u32,
+    pub refused: u32,
     pub done: usize,
-    pub state: State,
 }
 
 #[repr(C)]
@@ -45,28 +46,57 @@ pub struct Written {
     pub length: usize,
 }
 
-// One instruction word, executed on the state where it stands.
+// One instruction word, executed on a state's parts where they stand. The header's plokamyr_step lends those of a struct.
 #[no_mangle]
-pub extern "C" fn plokamyr_step(state: &mut State, word: u32) -> u32
+pub extern "C" fn plokamyr_step_parts(
+    vl: u64,
+    level: u8,
+    access: bool,
+    flags: &mut [bool; 4],
+    x: &mut [u64; 31],
+    p: &mut [[u64; 4]; 16],
+    word: u32,
+) -> u32
+    ensures { λ r. ⌜ SteppedParts r word (stateAt (record { vl = vl; level = level; access = access }) (now (flags .entry)) (now (x .entry)) (now (p .entry)))
+        (stateAt (record { vl = vl; level = level; access = access }) (now (flags .exit)) (now (x .exit)) (now (p .exit))) ⌝ }
+{
+    let settings = Settings { vl, level, access };
+    let reply = machine::engine::step(settings, flags, x, p, word);
+    reply.number() as u32
+}
+
+// The words executed one after the other, until one is refused, on a state's parts where they stand.
+#[no_mangle]
+pub extern "C" fn plokamyr_run_parts(
+    vl: u64,
+    level: u8,
+    access: bool,
+    flags: &mut [bool; 4],
+    x: &mut [u64; 31],
+    p: &mut [[u64; 4]; 16],
+    words: &[u32],
+) -> Ran
+    ensures { λ r. ⌜ RanParts r (now (words .entry)) (stateAt (record { vl = vl; level = level; access = access }) (now (flags .entry)) (now (x .entry)) (now (p .entry)))
+        (stateAt (record { vl = vl; level = level; access = access }) (now (flags .exit)) (now (x .exit)) (now (p .exit))) ⌝ }
+{
+    let settings = Settings { vl, level, access };
+    let went = machine::engine::run(settings, flags, x, p, words);
+    let reply = went.reply;
+    let refused = went.refused;
+    Ran {
+        reply: reply.number() as u32,
+        refused: refused.number() as u32,
+        done: went.done,
+    }
+}
+
+// One instruction word, executed on the state where it stands, by way of the step by value.
+#[no_mangle]
+pub extern "C" fn plokamyr_step_lent(state: &mut State, word: u32) -> u32
     ensures { λ r. ⌜ (r ≡ numberOf (stepOf (now (state .entry)) word .reply)) × (now (state .exit) ≡ stepOf (now (state .entry)) word .state) ⌝ }
 {
     let reply = lent::step(state, word);
     reply.number() as u32
-}
-
-// The words executed one after the other, until one is refused.
-#[no_mangle]
-pub extern "C" fn plokamyr_run(state: State, words: &[u32]) -> Ran
-    ensures { λ r. ⌜ r ≡ ranAs (runOf state (now (words .entry))) ⌝ }
-{
-    let ran = Machine { state }.run(words);
-    let reply = ran.reply;
-    let state = ran.state;
-    Ran {
-        reply: reply.number() as u32,
-        done: ran.done,
-        state,
-    }
 }
 
 // The walk from Xn to Xm with lanes Pd and cursor Pk: the positions visited go to the lent list.

@@ -1,4 +1,4 @@
--- `capi::plokamyr_step` meets its contract: a walk of its MIR, by hand. The borrow is passed on to `lent::step` as it came in, and the reply's number is the result.
+-- `capi::plokamyr_step_lent` meets its contract: a walk of its MIR, by hand. The borrow is passed on to `lent::step` as it came in, and the reply's number is the result.
 -- All that it knows of `lent::step` and of `Reply::number` is that each meets its contract. Assumes nothing.
 use mathlib.Core.Path.{_≡_, refl, ap, _∙_}
 use Prim.Native.Nat.{ℕ, _<_, _^_}
@@ -50,10 +50,10 @@ use Rattle.replies.proofs.Reply.number as number
 use Rattle.replies.proofs.Reply.number.Symbol as number-def
 use Rattle.replies.proofs.Reply.number.Symbol.{name as #replies·Reply·number}
 use Rattle.replies.proofs.Reply.number.Met as number-thm
-use Rattle.capi.proofs.plokamyr_step.Key.{name as #capi·plokamyr-step}
-use Rattle.capi.proofs.plokamyr_step as f
-use Rattle.capi.proofs.plokamyr_step.Statement as stated
-use Rattle.capi.proofs.plokamyr_step.Code as code
+use Rattle.capi.proofs.plokamyr_step_lent.Key.{name as #capi·plokamyr-step}
+use Rattle.capi.proofs.plokamyr_step_lent as f
+use Rattle.capi.proofs.plokamyr_step_lent.Statement as stated
+use Rattle.capi.proofs.plokamyr_step_lent.Code as code
 
 abbrev stayed : Stays (f.ended .signature .params) (f.ended .kept)
 stayed = (gave-ref (0 ∷ []) tt (plain (λ _. T.the-row)), (stay-none (λ _. u32) yes, tt))
@@ -152,9 +152,9 @@ step-meets : {M : Type 1} (𝓤 : URA M) (H : Heap 𝓤) (A : Atoms 𝓤) (W : G
 step-meets 𝓤 H A W at-mem run 𝓣 known-step known-number = walk-meets 𝓤 H A f.ended stayed W (goes 𝓤 H A W at-mem run) (f.clauses 𝓤 H A at-mem run) (WpFn 𝓤 H (𝓣 .C) (𝓣 .Λ) code.function) (WpFn-mono 𝓤 H (W .laws) 𝓣 code.function)
     (step-walks 𝓤 H A W at-mem run (𝓣 .C) (𝓣 .Λ) (fmOf 𝓤 H (W .laws) 𝓣) known-step known-number)
 
-pub plokamyr-step-spec : {M : Type 1} → stated.statement M
+pub plokamyr-step-lent-spec : {M : Type 1} → stated.statement M
 unfolding code.routine tablesOf
-plokamyr-step-spec 𝓤 H 𝓜 𝓖 𝓡 =
+plokamyr-step-lent-spec 𝓤 H 𝓜 𝓖 𝓡 =
     entered 𝓤 H (tripleOf 𝓤 H (𝓖 .A) f.signature (f.spec 𝓤 H (𝓖 .A) (𝓜 .mem) (𝓡 .run)))
     (tables 𝓤 H 𝓜 𝓡 code.env .C) (tables 𝓤 H 𝓜 𝓡 code.env .Λ) #capi·plokamyr-step code.function (code.unfolded 𝓤 H 𝓜 𝓡)
     (step-meets 𝓤 H (𝓖 .A) (givenOf 𝓤 H 𝓜 𝓖) (𝓜 .mem) (𝓡 .run) (tablesOf 𝓤 H 𝓜 (tables 𝓤 H 𝓜 𝓡 code.env))
