@@ -20,11 +20,11 @@ use Rattle.walk.specs.declared.Walked.{Walked}
 use Rattle.walk.specs.Walk.{walkOf, wholeOf}
 use Rattle.image.specs.declared.Reading.{Reading}
 use Rattle.image.specs.declared.Written.{Written}
-use Rattle.image.specs.Bytes.{value, parts, over}
+use Rattle.octets.specs.Bytes.{value, parts, over}
 use Rattle.image.specs.Image.{imageOf}
 use Rattle.image.specs.Reading.{imageReply, stateOf, wordsOf, countOf, contentOf, wordsAt, blank, readOf, listAfter}
 use Rattle.image.specs.Writing.{writeReply, writtenOf, bufferAfter}
-use Rattle.image.proofs.Bytes.{length-parts}
+use Rattle.octets.proofs.Bytes.{length-parts}
 use Rattle.vectors.specs.Records.{numberAt, block, pastBlock, ranOf, RunAgrees, ImageAgrees, walkedOf, listOf, Walks, unset, WalkAgrees}
 
 pub never : {A : Type 0} → false ≡ true → A

@@ -9,13 +9,10 @@ use Rattle.machine.specs.declared.Ran.{Ran}
 use Rattle.machine.specs.Step.{runOf}
 use Rattle.walk.specs.declared.Walked.{Walked}
 use Rattle.walk.specs.Walk.{walkOf, wholeOf}
-use Rattle.image.specs.Bytes.{value, parts}
+pub use Rattle.octets.specs.Bytes.{numberAt}
+use Rattle.octets.specs.Bytes.{value, parts}
 use Rattle.image.specs.Image.{imageOf}
 use Rattle.image.specs.Reading.{stateOf, wordsOf, readOf}
-
--- the number of the n bytes from `at` on
-abbrev pub numberAt : ℕ → ℕ → List ℕ → ℕ
-numberAt at n bs = value (take n (drop at bs))
 
 -- ---- a block: a length in four bytes, and then so many bytes
 

@@ -1,5 +1,5 @@
 -- `transcript` meets its contract. Assumes nothing.
-use Rattle.image.proofs.Bytes.{bytes-of, part-count}
+use Rattle.octets.proofs.Bytes.{bytes-of, part-count}
 use Rattle.transcript.proofs.Answers.{Fine, refused, whole}
 use borrow.Author.Needs.{needs}
 use Rattle.transcript.proofs.transcript.Statement.{statement}
