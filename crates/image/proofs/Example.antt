@@ -14,24 +14,18 @@ use Rattle.predicates.proofs.Words.{pack-bit, pack-words}
 use Rattle.replies.specs.declared.Reply.the-variants as R
 use Rattle.registers.specs.declared.State.{State}
 use Rattle.registers.specs.Legal.{isLength, legal}
-use Rattle.registers.specs.State.{allFalse, readP}
+use Rattle.registers.specs.State.{allFalse, made, readP}
 use Rattle.registers.proofs.Legality.{has-legal}
-use Rattle.image.specs.Bytes.{le, value, joined, over}
-use Rattle.image.specs.Image.{section, settingsBytes, predicateBytes, flagBytes, imageOf}
-use Rattle.image.specs.Reading.{sectionFault, orElse, settingsWrong, flagsWrong, wordsReply, flagsReply, predicatesReply, xReply, imageReply, stateOf, wordsOf, readOf, listAfter}
-use Rattle.image.proofs.Bytes.{AreBytes}
+use Rattle.octets.specs.Bytes.{le, value, joined, over}
+use Rattle.image.specs.Sections.{setting, sections, sectionReply, orElse, sectionsReply, startOf}
+use Rattle.image.specs.Image.{section, predicateBytes, imageOf}
+use Rattle.image.specs.Reading.{imageReply, stateOf, wordsOf, readOf, listAfter}
+use Rattle.octets.proofs.Bytes.{AreBytes}
 use Rattle.image.proofs.RoundTrips.{Held, read-written, list-written, written-read}
 
 -- VL 128, level 1, access on, X1 = 10, X2 = 13, all else zero
 abbrev pub state : State
-state = record {
-  vl = 128;
-  level = 1;
-  access = true;
-  flags = record { n = false; z = false; c = false; v = false };
-  x = 0 ∷ 10 ∷ 13 ∷ replicate 28 0;
-  p = replicate 16 allFalse;
-}
+state = made 128 1 true (record { n = false; z = false; c = false; v = false }) (0 ∷ 10 ∷ 13 ∷ replicate 28 0) (replicate 16 allFalse)
 
 -- 25A21C20, 2519C401, 00000000
 abbrev pub words : List ℕ
@@ -45,7 +39,7 @@ image =
     ++ (4 ∷ 0 ∷ 0 ∷ 0 ∷ 0 ∷ 0 ∷ 0 ∷ 0 ∷ 3 ∷ 0 ∷ 0 ∷ 0 ∷ 32 ∷ 28 ∷ 162 ∷ 37 ∷ 1 ∷ 196 ∷ 25 ∷ 37 ∷ 0 ∷ 0 ∷ 0 ∷ 0 ∷ [])))))
 
 pub image-bytes : imageOf state words ≡ image
-unfolding imageOf section settingsBytes predicateBytes flagBytes joined le number bitAt pack testBit
+unfolding imageOf section predicateBytes joined le number bitAt pack testBit
 image-bytes = refl
 
 -- ---- what the round trips ask for
@@ -88,7 +82,7 @@ unfolding allBelow
 bytes = below-all 256 image (lit< tt) refl
 
 pub reply : imageReply 3 image ≡ R.Done
-unfolding imageReply xReply predicatesReply flagsReply wordsReply orElse sectionFault settingsWrong flagsWrong isLength some value
+unfolding imageReply sections setting sectionsReply sectionReply startOf orElse isLength some value
 reply = refl
 
 -- ---- the round trips

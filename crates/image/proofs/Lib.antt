@@ -1,8 +1,8 @@
 -- Laws of images. Callers' proofs cite them.
-pub mod Bytes
 pub mod PredicateBytes
-pub mod Sections
+pub mod SectionLaws
 pub mod Readings
 pub mod Writings
 pub mod RoundTrips
+pub mod Longest
 pub mod Example

@@ -19,10 +19,10 @@ use Rattle.bits.proofs.Searches.{some-no, some-none}
 use Rattle.predicates.specs.declared.Predicate.{Predicate}
 use Rattle.predicates.specs.Predicate.{bitAt, pack, hasBitFrom}
 use Rattle.predicates.proofs.Words.{Words, word, word-bits, pack-bit, pack-bits, pack-cong, four-words}
-use Rattle.image.specs.Bytes.{le, value}
+use Rattle.octets.specs.Bytes.{le, value, numberAt}
 use Rattle.image.specs.Image.{predicateBytes}
 use Rattle.image.specs.Reading.{predicateOf}
-use Rattle.image.proofs.Bytes.{AreBytes, length-le, value-le, value-below, le-value-at, bytes-drop, sets-append}
+use Rattle.octets.proofs.Bytes.{AreBytes, length-le, value-le, value-below, le-value-at, bytes-drop, sets-append}
 
 -- k bytes have 8 k bits
 pub byte-bits : (k : ℕ) → 256 ^ k ≡ 2 ^ (8 * k)
@@ -176,9 +176,9 @@ predicate-within k bs h b =
     ])
 
 -- four words read are the predicate
-pub from-words : (bs pa pb pc pd : List ℕ) (a b c d : ℕ) → AreBytes bs → pa ≡ take 8 (drop 0 bs) → pb ≡ take 8 (drop 8 bs) → pc ≡ take 8 (drop 16 bs) → pd ≡ take 8 (drop 24 bs)
-    → a ≡ value pa → b ≡ value pb → c ≡ value pc → d ≡ value pd → _≡_ {A = Predicate} (record { words = a ∷ b ∷ c ∷ d ∷ [] }) (predicateOf bs)
+pub from-words : (bs : List ℕ) (a b c d : ℕ) → AreBytes bs → a ≡ numberAt 0 8 bs → b ≡ numberAt 8 8 bs → c ≡ numberAt 16 8 bs → d ≡ numberAt 24 8 bs
+    → _≡_ {A = Predicate} (record { words = a ∷ b ∷ c ∷ d ∷ [] }) (predicateOf bs)
 unfolding predicateOf
-from-words bs pa pb pc pd a b c d h ea eb ec ed va vb vc vd =
+from-words bs a b c d h ea eb ec ed =
     let w : (at : ℕ) → value (take 8 (drop at bs)) ≡ number (testBit (value bs)) (8 * at) 64 = λ at. word-of bs at h (bytes-drop at bs h) in
-    four-words (testBit (value bs)) a b c d (va ∙ ap value ea ∙ w 0) (vb ∙ ap value eb ∙ w 8) (vc ∙ ap value ec ∙ w 16) (vd ∙ ap value ed ∙ w 24)
+    four-words (testBit (value bs)) a b c d (ea ∙ w 0) (eb ∙ w 8) (ec ∙ w 16) (ed ∙ w 24)

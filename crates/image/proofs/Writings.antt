@@ -2,74 +2,140 @@
 use mathlib.Core.Bool.{Bool, true, false, not}
 use mathlib.Core.List.{List, [], _∷_, _++_}
 use mathlib.Core.Path.{_≡_, refl, sym, ap, _∙_}
-use Prim.Native.Nat.{ℕ, _+_, _*_, _/_, _≤_, _<_}
+use Prim.Native.Nat.{ℕ, zero, suc, _+_, _-_, _*_, _/_, _≤_, _<_}
 use native.Mathlib.Omega.{arith}
-use lib.ListN.{length, length-append}
+use lib.Dec.{lit≤}
+use lib.ListN.{length, drop, length-append}
 use lib.Seq.{sets}
 use borrow.Author.Tests.{lt-ltb, le-ltb, ne-eqb}
 use Rattle.bits.specs.Choice.{pick, digit}
 use Rattle.bits.proofs.Searches.{never}
+use Rattle.octets.specs.Bytes.{le, joined}
+use Rattle.octets.proofs.Bytes.{length-le, length-joined, sets-append, sets-over}
 use Rattle.predicates.specs.declared.Flags.{Flags}
 use Rattle.replies.specs.declared.Reply.{Reply}
 use Rattle.replies.specs.declared.Reply.the-variants as R
+use Rattle.replies.specs.Reply.{numberOf}
 use Rattle.registers.specs.declared.State.{State}
 use Rattle.registers.specs.Legal.{legal, illegal}
-use Rattle.replies.specs.Reply.{numberOf}
 use Rattle.registers.proofs.Legality.{legal-has, quads}
 use Rattle.registers.proofs.Registers.{Sized}
 use Rattle.image.specs.declared.Written.{Written}
-use Rattle.image.specs.Bytes.{le, joined}
-use Rattle.image.specs.Image.{section, settingsBytes, predicateBytes, flagBytes, imageOf}
+use Rattle.image.specs.declared.sections.Shape.{Shape}
+use Rattle.image.specs.Sections.{sections, sectionAt, shapeOf, bytesOf, imageLength}
+use Rattle.image.specs.Image.{section, settingItems, predicateBytes, flagItems, imageOf}
 use Rattle.image.specs.Writing.{writeReply, writtenOf, bufferAfter}
-use Rattle.image.proofs.Bytes.{length-le, length-joined, sets-append, sets-over}
 use Rattle.image.proofs.PredicateBytes.{length-bytes}
+use Rattle.image.proofs.SectionLaws.{here}
 
--- ---- lengths
+-- ---- the length, section by section
 
-pub section-length : (n : ℕ) (content : List ℕ) → length (section n content) ≡ 4 + length content
+abbrev pub lengthLeft : ℕ → ℕ → ℕ → ℕ
+lengthLeft vl words i = bytesOf (λ s. s .lowest) (drop i (sections vl)) + 4 * words
+
+pub length-start : (vl words : ℕ) → 4 * words ≡ lengthLeft vl words 5
+unfolding sections bytesOf
+length-start vl words = omega arith
+
+pub length-end : (vl words i n : ℕ) → n ≡ lengthLeft vl words i → i ≤ 0 → n ≡ imageLength vl words
+unfolding imageLength
+length-end vl words i n e h = let z : i ≡ 0 = omega arith in e ∙ ap (lengthLeft vl words) z
+
+pub length-turn : (vl words i n : ℕ) (shape : Shape) → n ≡ lengthLeft vl words i → 0 < i → i ≤ 5 → shape ≡ shapeOf (sectionAt (sections vl) (i - 1))
+    → 4 + shape .lowest * shape .item + n ≡ lengthLeft vl words (i - 1)
+unfolding bytesOf
+length-turn vl words i n shape e h l es =
+    let k : suc (i - 1) ≡ i = omega arith in
+    let d : drop (i - 1) (sections vl) ≡ sectionAt (sections vl) (i - 1) ∷ drop i (sections vl) = here vl (i - 1) (omega arith) ∙ ap (λ (j : ℕ). sectionAt (sections vl) (i - 1) ∷ drop j (sections vl)) k in
+    let b : bytesOf (λ s. s .lowest) (drop (i - 1) (sections vl)) ≡ 4 + sectionAt (sections vl) (i - 1) .lowest * sectionAt (sections vl) (i - 1) .item + bytesOf (λ s. s .lowest) (drop i (sections vl)) =
+    ap (bytesOf (λ s. s .lowest)) d in
+    let m : shape .lowest * shape .item ≡ sectionAt (sections vl) (i - 1) .lowest * sectionAt (sections vl) (i - 1) .item = ap (λ (x : Shape). x .lowest * x .item) es in
+    omega arith
+
+-- the least that a section has, up to VL 2048
+pub least-most : (vl i : ℕ) (shape : Shape) → vl ≤ 2048 → shape ≡ shapeOf (sectionAt (sections vl) i) → shape .lowest * shape .item ≤ 992
+unfolding sections
+least-most vl i shape h e = rw e (go i)
+  where
+    go : (i : ℕ) → sectionAt (sections vl) i .lowest * sectionAt (sections vl) i .item ≤ 992
+    go zero = lit≤ tt
+    go (suc zero) = lit≤ tt
+    go (suc (suc zero)) = omega arith
+    go (suc (suc (suc zero))) = lit≤ tt
+    go (suc (suc (suc (suc zero)))) = omega arith
+    go (suc (suc (suc (suc (suc i))))) = omega arith
+
+-- ---- the sections as they are written
+
+pub section-start : {A : Type 0} (g : A → List ℕ) (l m : List ℕ) (at n : ℕ) (items : List A) → m ≡ sets l at (le 4 n) → n ≡ length items
+    → sets m (at + 4) (joined g items) ≡ sets l at (section g items)
 unfolding section
-section-length n content = simp (length-append, length-le)
+section-start g l m at n items e h = rw (e, h, sets-append l at (le 4 (length items)) (joined g items), length-le 4 (length items))
 
-flags-length : (f : Flags) → length (section 4 (flagBytes f)) ≡ 8
-unfolding flagBytes
-flags-length f = section-length 4 (digit (f .n) ∷ digit (f .z) ∷ digit (f .c) ∷ digit (f .v) ∷ [])
+pub section-length : {A : Type 0} (g : A → List ℕ) (k : ℕ) → ((x : A) → length (g x) ≡ k) → (items : List A) → length (section g items) ≡ 4 + length items * k
+unfolding section
+section-length g k len items = simp (length-append, length-le, length-joined g k len items)
 
-more : (l m : List ℕ) (at next : ℕ) (x y : List ℕ) → m ≡ sets l at x → next ≡ at + length x → sets l at (x ++ y) ≡ sets m next y
-more l m at next x y e n = rw (e, n) (sets-append l at x y)
+pub three-items : (s : State) (t : ℕ) → t ≡ digit (s .access) → s .vl / 128 ∷ s .level ∷ t ∷ [] ≡ settingItems s
+three-items s t e = rw e
+
+pub four-items : (f : Flags) (a b c d : ℕ) → a ≡ digit (f .n) → b ≡ digit (f .z) → c ≡ digit (f .c) → d ≡ digit (f .v) → a ∷ b ∷ c ∷ d ∷ [] ≡ flagItems f
+four-items f a b c d ea eb ec ed = rw (ea, eb, ec, ed)
 
 pub legal-vl : (s : State) → legal s ≡ true → s .vl ≤ 2048
 legal-vl s h = let (q, e, _, l) = quads (s .vl) (legal-has s h .len) in omega arith
 
-module _ (s : State) (ok : Sized s) where
-  pub length-x : length (section 31 (joined (le 8) (s .x))) ≡ 252
-  length-x = section-length 31 _ ∙ rw (length-joined (le 8) 8 (length-le 8) (s .x), ok .xs)
+more : (l m : List ℕ) (at next : ℕ) (x y : List ℕ) → m ≡ sets l at x → next ≡ at + length x → sets l at (x ++ y) ≡ sets m next y
+more l m at next x y e n = rw (e, n) (sets-append l at x y)
 
-  pub length-p : length (section 16 (joined (predicateBytes (s .vl / 64)) (s .p))) ≡ 4 + 16 * (s .vl / 64)
-  length-p = section-length 16 _ ∙ rw (length-joined (predicateBytes (s .vl / 64)) (s .vl / 64) (length-bytes (s .vl / 64)) (s .p), ok .ps)
+module _ (s : State) (ok : Sized s) (ws : List ℕ) where
+  abbrev size : ℕ
+  size = s .vl / 64
 
-  pub image-length : (ws : List ℕ) → length (imageOf s ws) ≡ 275 + 16 * (s .vl / 64) + 4 * length ws
-  unfolding imageOf settingsBytes flagBytes
-  image-length ws =
-      simp (length-append, length-x, length-p, section-length, length-joined (le 4) 4 (length-le 4) ws) (omega arith)
+  pub length-settings : length (section (le 1) (settingItems s)) ≡ 4 + 3 * 1
+  length-settings = section-length (le 1) 1 (length-le 1) (settingItems s)
+
+  pub length-x : length (section (le 8) (s .x)) ≡ 4 + 31 * 8
+  length-x = section-length (le 8) 8 (length-le 8) (s .x) ∙ rw (ok .xs)
+
+  pub length-p : length (section (predicateBytes size) (s .p)) ≡ 4 + 16 * size
+  length-p = section-length (predicateBytes size) size (length-bytes size) (s .p) ∙ rw (ok .ps)
+
+  pub length-flags : length (section (le 1) (flagItems (s .flags))) ≡ 4 + 4 * 1
+  length-flags = section-length (le 1) 1 (length-le 1) (flagItems (s .flags))
+
+  pub length-words : length (section (le 4) ws) ≡ 4 + length ws * 4
+  length-words = section-length (le 4) 4 (length-le 4) ws
+
+  pub image-bytes : length (imageOf s ws) ≡ 275 + 16 * size + 4 * length ws
+  unfolding imageOf
+  image-bytes = simp (length-append, length-settings, length-x, length-p, length-flags, length-words) (omega arith)
+
+  -- the image is as long as its sections say
+  pub image-length : length (imageOf s ws) ≡ imageLength (s .vl) (length ws)
+  unfolding imageLength sections bytesOf
+  image-length = image-bytes ∙ omega arith
 
   -- the sections written one after the other are the image
-  pub sections-put : (ws l a b c d e : List ℕ) → a ≡ sets l 0 (section 3 (s .vl / 128 ∷ s .level ∷ digit (s .access) ∷ []))
-      → b ≡ sets a 7 (section 31 (joined (le 8) (s .x)))
-      → c ≡ sets b 259 (section 16 (joined (predicateBytes (s .vl / 64)) (s .p)))
-      → d ≡ sets c (263 + 16 * (s .vl / 64)) (section 4 (flagBytes (s .flags)))
-      → e ≡ sets d (263 + 16 * (s .vl / 64) + 8) (section (length ws) (joined (le 4) ws))
+  pub sections-put : (settings flags l a b c d e : List ℕ) (x-at p-at flags-at words-at : ℕ) → settings ≡ settingItems s → flags ≡ flagItems (s .flags)
+      → a ≡ sets l 0 (section (le 1) settings) → x-at ≡ 0 + (4 + length settings * 1)
+      → b ≡ sets a x-at (section (le 8) (s .x)) → p-at ≡ x-at + (4 + length (s .x) * 8)
+      → c ≡ sets b p-at (section (predicateBytes size) (s .p)) → flags-at ≡ p-at + (4 + 16 * size)
+      → d ≡ sets c flags-at (section (le 1) flags) → words-at ≡ flags-at + (4 + length flags * 1)
+      → e ≡ sets d words-at (section (le 4) ws)
       → e ≡ sets l 0 (imageOf s ws)
-  unfolding imageOf settingsBytes
-  sections-put ws l a b c d e ea eb ec ed ee =
-      let z : ℕ = s .vl / 64 in
-      let s5 : List ℕ = section (length ws) (joined (le 4) ws) in
-      let s4 : List ℕ = section 4 (flagBytes (s .flags)) in
-      let s3 : List ℕ = section 16 (joined (predicateBytes z) (s .p)) in
-      let s2 : List ℕ = section 31 (joined (le 8) (s .x)) in
-      let s1 : List ℕ = section 3 (s .vl / 128 ∷ s .level ∷ digit (s .access) ∷ []) in
+  unfolding imageOf
+  sections-put settings flags l a b c d e x-at p-at flags-at words-at es ef ea na eb nb ec nc ed nd ee =
+      let s1 : List ℕ = section (le 1) (settingItems s) in
+      let s2 : List ℕ = section (le 8) (s .x) in
+      let s3 : List ℕ = section (predicateBytes size) (s .p) in
+      let s4 : List ℕ = section (le 1) (flagItems (s .flags)) in
+      let s5 : List ℕ = section (le 4) ws in
       ee
-      ∙ sym (more l a 0 7 s1 (s2 ++ (s3 ++ (s4 ++ s5))) ea (sym (ap (λ (k : ℕ). 0 + k) (section-length 3 (s .vl / 128 ∷ s .level ∷ digit (s .access) ∷ [])))) ∙ more a b 7 259 s2 (s3 ++ (s4 ++ s5)) eb (rw length-x)
-      ∙ more b c 259 (263 + 16 * z) s3 (s4 ++ s5) ec (rw length-p (omega arith)) ∙ more c d (263 + 16 * z) (263 + 16 * z + 8) s4 s5 ed (sym (ap (λ (k : ℕ). 263 + 16 * z + k) (flags-length (s .flags)))))
+      ∙ sym (more l a 0 x-at s1 (s2 ++ (s3 ++ (s4 ++ s5))) (rw es at ea) (rw (na, es, length-settings))
+      ∙ more a b x-at p-at s2 (s3 ++ (s4 ++ s5)) eb (rw (nb, length-x, ok .xs))
+      ∙ more b c p-at flags-at s3 (s4 ++ s5) ec (rw (nc, length-p))
+      ∙ more c d flags-at words-at s4 s5 (rw ef at ed) (rw (nd, ef, length-flags)))
 
 -- ---- the replies, in their order
 

@@ -1,4 +1,4 @@
-pub mod Bytes
+pub mod Sections
 pub mod Image
 pub mod Reading
 pub mod Writing

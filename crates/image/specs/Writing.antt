@@ -10,7 +10,7 @@ use Rattle.registers.specs.declared.State.{State}
 use Rattle.registers.specs.Legal.{illegal}
 use Rattle.replies.specs.Reply.{isDone}
 use Rattle.image.specs.declared.Written.{Written}
-use Rattle.image.specs.Bytes.{over}
+use Rattle.octets.specs.Bytes.{over}
 use Rattle.image.specs.Image.{imageOf}
 
 -- 4, then a word count above 4,096 (6), then 8

@@ -1,14 +1,14 @@
 -- Laws of legality: what a legal state has, and that writes keep it. Facts over the vector length are over VL = 128 q. Assumes nothing.
 use mathlib.Core.Bool.{Bool, true, false, not, _&&_, _||_}
 use mathlib.Core.List.{List, [], _∷_}
-use mathlib.Core.Path.{_≡_, refl, sym, ap, ap₂, _∙_}
+use mathlib.Core.Path.{_≡_, refl, ap, ap₂, _∙_}
 use Prim.Native.Nat.{ℕ, zero, suc, _+_, _*_, _≤_, _<_}
 use native.Mathlib.Decide.{ℕ-discrete}
 use native.Mathlib.Numerals.{add-one}
 use native.Mathlib.Omega.{arith}
-use lib.Dec.{ltb, leb}
+use lib.Dec.{leb}
 use lib.ListN.{getD, set, length}
-use borrow.Author.Tests.{ne-eqb, eqb-true, lt-ltb, le-ltb, ltb-false}
+use borrow.Author.Tests.{ne-eqb, eqb-true, le-leb, leb-true}
 use Rattle.bits.specs.Search.{some}
 use Rattle.bits.proofs.Searches.{never, some-cong, some-none, some-no, some-swap, some-and}
 use Rattle.predicates.specs.declared.Flags.{Flags}
@@ -16,25 +16,40 @@ use Rattle.predicates.specs.declared.Predicate.{Predicate}
 use Rattle.predicates.specs.Predicate.{bitAt, pack, predicateLength, hasBitFrom}
 use Rattle.predicates.proofs.Words.{pack-bit, pack-cong}
 use Rattle.registers.specs.declared.State.{State}
-use Rattle.registers.specs.Legal.{isLength, hasStrayBit, illegal, legal}
+use Rattle.registers.specs.Legal.{isLength, settingsAllowed, hasStrayBit, illegal, legal}
 use Rattle.registers.specs.State.{allFalse, readP, withX, withP, withFlags}
 
 -- ---- the test, case by case
 
-pub not-length : (s : State) (t : Bool) → t ≡ isLength (s .vl) → not t ≡ true → false ≡ legal s
+pub not-allowed : (s : State) (t : Bool) → t ≡ settingsAllowed (s .vl) (s .level) → not t ≡ true → false ≡ legal s
 unfolding illegal
-not-length s true h n = never n refl
-not-length s false h n = ap (λ (b : Bool). not (not b || (ltb 3 (s .level) || hasStrayBit s))) h
+not-allowed s true h n = never n refl
+not-allowed s false h n = ap (λ (b : Bool). not (not b || hasStrayBit s)) h
 
-pub above-three : (s : State) (t : Bool) → t ≡ isLength (s .vl) → not t ≡ false → 3 < s .level → false ≡ legal s
+pub allowed : (s : State) (t : Bool) → t ≡ settingsAllowed (s .vl) (s .level) → not t ≡ false → not (hasStrayBit s) ≡ legal s
 unfolding illegal
-above-three s false h n l = never refl n
-above-three s true h n l = ap₂ (λ (b c : Bool). not (not b || (c || hasStrayBit s))) h (sym (lt-ltb 3 (s .level) l))
+allowed s false h n = never refl n
+allowed s true h n = ap (λ (b : Bool). not (not b || hasStrayBit s)) h
 
-pub rest : (s : State) (t : Bool) → t ≡ isLength (s .vl) → not t ≡ false → s .level ≤ 3 → not (hasStrayBit s) ≡ legal s
-unfolding illegal
-rest s false h n l = never refl n
-rest s true h n l = ap₂ (λ (b c : Bool). not (not b || (c || hasStrayBit s))) h (sym (le-ltb 3 (s .level) l))
+-- the settings, as the code tests them
+pub not-length : (vl level : ℕ) (t : Bool) → t ≡ isLength vl → not t ≡ true → false ≡ settingsAllowed vl level
+not-length vl level true h n = never n refl
+not-length vl level false h n = ap (λ (b : Bool). b && leb level 3) h
+
+pub by-level : (vl level : ℕ) (t : Bool) → t ≡ isLength vl → not t ≡ false → leb level 3 ≡ settingsAllowed vl level
+by-level vl level false h n = never refl n
+by-level vl level true h n = ap (λ (b : Bool). b && leb level 3) h
+
+-- what allowed settings are
+both : (a b : Bool) → (a && b) ≡ true → (a ≡ true) × (b ≡ true)
+both true b e = (refl, e)
+both false b e = never e refl
+
+pub settings-has : (vl level : ℕ) → settingsAllowed vl level ≡ true → (isLength vl ≡ true) × (level ≤ 3)
+settings-has vl level e = let (a, b) = both (isLength vl) (leb level 3) e in (a, leb-true level 3 b)
+
+pub has-settings : (vl level : ℕ) → isLength vl ≡ true → level ≤ 3 → settingsAllowed vl level ≡ true
+has-settings vl level e l = rw (e, le-leb level 3 l)
 
 -- a stray bit of some predicate is one of their union
 pub stray-union : (s : State) (u : Predicate) → u ≡ pack (λ b. some (λ r. bitAt (readP s r) b) 16) → hasBitFrom (predicateLength (s .vl)) u ≡ hasStrayBit s
@@ -51,22 +66,22 @@ pub record Legal (s : State) : Type 0 where
   pub level : s .level ≤ 3
   pub bits : (r : ℕ) → r < 16 → hasBitFrom (predicateLength (s .vl)) (readP s r) ≡ false
 
-three : (a b c : Bool) → not (not a || (b || c)) ≡ true → (a ≡ true) × (b ≡ false) × (c ≡ false)
-three true false false h = (refl, refl, refl)
-three true false true h = never h refl
-three true true c h = never h refl
-three false b c h = never h refl
+lawful : (a c : Bool) → not (not a || c) ≡ true → (a ≡ true) × (c ≡ false)
+lawful true false h = (refl, refl)
+lawful true true h = never h refl
+lawful false c h = never h refl
 
 pub legal-has : (s : State) → legal s ≡ true → Legal s
 unfolding illegal hasStrayBit
 legal-has s h =
-    let (a, b, c) = three (isLength (s .vl)) (ltb 3 (s .level)) (hasStrayBit s) h in
-    record { len = a; level = ltb-false 3 (s .level) b; bits = some-none _ 16 c }
+    let (a, c) = lawful (settingsAllowed (s .vl) (s .level)) (hasStrayBit s) h in
+    let (e, l) = settings-has (s .vl) (s .level) a in
+    record { len = e; level = l; bits = some-none _ 16 c }
 
 pub has-legal : (s : State) → Legal s → legal s ≡ true
 unfolding illegal hasStrayBit
 has-legal s l =
-    ap₂ (λ (a b : Bool). not (not a || (b || hasStrayBit s))) (l .len) (le-ltb 3 (s .level) (l .level)) ∙ ap not (some-no _ 16 (l .bits))
+    ap (λ (a : Bool). not (not a || hasStrayBit s)) (has-settings (s .vl) (s .level) (l .len) (l .level)) ∙ ap not (some-no _ 16 (l .bits))
 
 -- VL is 128 q, with q from 1 to 16
 pub quads : (vl : ℕ) → isLength vl ≡ true → (q : ℕ) × (vl ≡ 128 * q) × (1 ≤ q) × (q ≤ 16)

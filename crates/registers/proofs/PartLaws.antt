@@ -17,9 +17,9 @@ use Rattle.predicates.specs.PredTest.{flagsOf}
 use Rattle.registers.specs.declared.State.{State}
 use Rattle.registers.specs.declared.parts.Settings.{Settings}
 use Rattle.registers.specs.State.{readP}
-use Rattle.registers.specs.Legal.{isLength, legal}
+use Rattle.registers.specs.Legal.{settingsAllowed, legal}
 use Rattle.registers.specs.Parts.{predicatesOf, flagsAt, stateAt, settingsOf}
-use Rattle.registers.proofs.Legality.{rest, stray-union}
+use Rattle.registers.proofs.Legality.{allowed, stray-union}
 
 pub predicates-length : (l : List (List ℕ)) → length (predicatesOf l) ≡ length l
 unfolding predicatesOf
@@ -55,9 +55,9 @@ flags-written l sets f h = sym (ap (λ (b : Bool). pick b (flagsOf f) (flagsAt l
 
 -- ---- legality, from the union of the predicates
 
-pub by-union : (s : State) (b r : Bool) (u : Predicate) (pl : ℕ) → b ≡ isLength (s .vl) → not b ≡ false → s .level ≤ 3 → u ≡ pack (λ k. some (λ i. bitAt (readP s i) k) 16) → pl ≡ predicateLength (s .vl)
+pub by-union : (s : State) (b r : Bool) (u : Predicate) (pl : ℕ) → b ≡ settingsAllowed (s .vl) (s .level) → not b ≡ false → u ≡ pack (λ k. some (λ i. bitAt (readP s i) k) 16) → pl ≡ predicateLength (s .vl)
     → r ≡ not (hasBitFrom pl u) → r ≡ legal s
-by-union s b r u pl hb n l hu hp hr = hr ∙ ap not (ap (λ (k : ℕ). hasBitFrom k u) hp ∙ stray-union s u hu) ∙ rest s b hb n l
+by-union s b r u pl hb n hu hp hr = hr ∙ ap not (ap (λ (k : ℕ). hasBitFrom k u) hp ∙ stray-union s u hu) ∙ allowed s b hb n
 
 -- ---- predicates copied one by one
 

@@ -3,9 +3,9 @@ ghost use mathlib.Core.Path.{_≡_};
 ghost use Rattle.bits.specs.Search.{some};
 ghost use Rattle.predicates.specs.Predicate.{bitAt, pack};
 ghost use lib.ListN.{getD};
-ghost use Rattle.registers.specs.State.{allFalse, readX, readP, withX, withP, withFlags};
+ghost use Rattle.registers.specs.State.{allFalse, made, readX, readP, withX, withP, withFlags};
 ghost use Rattle.registers.specs.Parts.{settingsOf};
-ghost use Rattle.registers.specs.Legal.{isLength, legal};
+ghost use Rattle.registers.specs.Legal.{isLength, settingsAllowed, legal};
 
 pub mod parts;
 
@@ -35,7 +35,7 @@ impl State {
         x: [u64; 31],
         p: [Predicate; 16],
     ) -> State
-        ensures { λ s. ⌜ s ≡ record { vl = vl; level = level; access = access; flags = flags; x = x; p = p } ⌝ }
+        ensures { λ s. ⌜ s ≡ made vl level access flags x p ⌝ }
     {
         State {
             vl,
@@ -110,10 +110,7 @@ impl State {
     pub fn is_legal(self) -> bool
         ensures { λ r. ⌜ r ≡ legal self ⌝ }
     {
-        if !is_length(self.vl) {
-            return false;
-        }
-        if 3 < self.level {
+        if !settings_allowed(self.vl, self.level) {
             return false;
         }
         let p = self.p;
@@ -138,6 +135,16 @@ pub fn is_length(vl: u64) -> bool
         return true;
     }
     vl == 2048
+}
+
+// The five vector lengths, and level at most 3: for a state, and for an image's settings.
+pub fn settings_allowed(vl: u64, level: u8) -> bool
+    ensures { λ r. ⌜ r ≡ settingsAllowed vl level ⌝ }
+{
+    if !is_length(vl) {
+        return false;
+    }
+    level <= 3
 }
 
 // The bits that any of the predicates has.

@@ -98,10 +98,7 @@ fn union(p: &[[u64; 4]]) -> Predicate
 pub fn is_legal(settings: Settings, p: &[[u64; 4]]) -> bool
     ensures { λ r. ⌜ ((f : List Bool) → (x : List ℕ) → r ≡ legal (stateAt settings f x (now (p .entry)))) ⌝ }
 {
-    if !super::is_length(settings.vl) {
-        return false;
-    }
-    if 3 < settings.level {
+    if !super::settings_allowed(settings.vl, settings.level) {
         return false;
     }
     union(p).is_within(predicates::predicate_length(settings.vl))

@@ -17,8 +17,9 @@ use Rattle.instructions.specs.Whiles.{allHeld, whileElement, whileOneOf, whileP
 use Rattle.scalars.specs.While.{operandAt, comparison}
 use Rattle.machine.specs.Execute.{apply, executeOf}
 use Rattle.machine.specs.Step.{afterWord, stepOf}
-use Rattle.image.specs.Bytes.{value, parts}
-use Rattle.image.specs.Reading.{sectionFault, orElse, settingsWrong, flagsWrong, flagsIn, predicateOf, wordsReply, flagsReply, predicatesReply, xReply, imageReply, stateOf, wordsOf}
+use Rattle.octets.specs.Bytes.{value, parts}
+use Rattle.image.specs.Sections.{setting, sections, sectionReply, orElse, sectionsReply, startOf}
+use Rattle.image.specs.Reading.{flagsIn, predicateOf, imageReply, stateOf, wordsOf}
 use Rattle.image.proofs.Example.{image}
 use Rattle.report.specs.Lines.{symbol, digits, decimalIn, flagDigits, wordLine, endLine, imageLine}
 use Rattle.transcript.specs.Transcript.{linesOf, transcriptOf, afterAll, placedAll, text}
@@ -33,7 +34,7 @@ wanted =
 
 -- with the list of 4,096 places that the program lends
 pub example : text (transcriptOf 4096 image) ≡ wanted
-unfolding transcriptOf linesOf text value parts sectionFault orElse settingsWrong flagsWrong flagsIn predicateOf wordsReply flagsReply predicatesReply xReply imageReply stateOf wordsOf wordLine endLine flagDigits decimalIn digits symbol testBit number elementBit count some afterLast scan bitAt pack active spread elements predicateLength hasBitFrom atLowest atHighest predTest nzcv flagsOf isLength hasStrayBit illegal withX withP withFlags readBy operandAt comparison allHeld whileElement counterOf counterFlags whileOneOf whilePairOf whileCounterOf pnextOf computeOf apply executeOf afterWord stepOf
+unfolding transcriptOf linesOf text value parts setting sections sectionReply orElse sectionsReply startOf flagsIn predicateOf imageReply stateOf wordsOf wordLine endLine flagDigits decimalIn digits symbol testBit number elementBit count some afterLast scan bitAt pack active spread elements predicateLength hasBitFrom atLowest atHighest predTest nzcv flagsOf isLength hasStrayBit illegal withX withP withFlags readBy operandAt comparison allHeld whileElement counterOf counterFlags whileOneOf whilePairOf whileCounterOf pnextOf computeOf apply executeOf afterWord stepOf
 example = refl
 
 -- in every buffer that is long enough for all images
@@ -42,5 +43,5 @@ written out h = let t = transcribed 4096 image out h in (t .0 ∙ ap length exam
 
 -- an image cut short: image 5
 pub refused : text (transcriptOf 4096 (3 ∷ 0 ∷ 0 ∷ [])) ≡ 105 ∷ 109 ∷ 97 ∷ 103 ∷ 101 ∷ 32 ∷ 53 ∷ 10 ∷ []
-unfolding transcriptOf text value sectionFault orElse imageReply imageLine decimalIn symbol
+unfolding transcriptOf text value sections sectionReply orElse sectionsReply imageReply imageLine decimalIn symbol
 refused = refl

@@ -18,7 +18,7 @@ use Rattle.machine.specs.declared.Stepped.{Stepped}
 use Rattle.machine.specs.Step.{stepOf}
 use Rattle.replies.specs.Reply.{isDone}
 use Rattle.image.specs.Reading.{imageReply, stateOf, wordsOf}
-use Rattle.image.proofs.Bytes.{length-parts}
+use Rattle.octets.proofs.Bytes.{length-parts}
 use Rattle.replies.proofs.Replies.{number-done}
 use Rattle.image.proofs.Readings.{sound}
 use Rattle.report.specs.Lines.{wordLine, endLine, imageLine, after, placed}
@@ -163,7 +163,7 @@ most s done (w ∷ ws) h = most-word (stepOf s w) done w ws (omega arith) (most 
 module _ (room : ℕ) (image : List ℕ) where
   few : isDone (imageReply room image) ≡ true → length (wordsOf image) ≤ 4096
   unfolding wordsOf
-  few e = rw length-parts (sound room image (number-done (imageReply room image) (eqb-true (numberOf (imageReply room image)) 0 e)) .words .atMost)
+  few e = rw length-parts (sound room image (number-done (imageReply room image) (eqb-true (numberOf (imageReply room image)) 0 e)) .few)
 
   pub text-most : length (text (transcriptOf room image)) ≤ 86026
   unfolding transcriptOf

@@ -20,11 +20,11 @@ use Rattle.walk.specs.declared.Walked.{Walked}
 use Rattle.walk.specs.Walk.{walkOf, wholeOf}
 use Rattle.image.specs.declared.Reading.{Reading}
 use Rattle.image.specs.declared.Written.{Written}
-use Rattle.image.specs.Bytes.{value, parts, over}
+use Rattle.octets.specs.Bytes.{value, parts, over}
 use Rattle.image.specs.Image.{imageOf}
 use Rattle.image.specs.Reading.{imageReply, stateOf, wordsOf, countOf, contentOf, wordsAt, blank, readOf, listAfter}
 use Rattle.image.specs.Writing.{writeReply, writtenOf, bufferAfter}
-use Rattle.image.proofs.Bytes.{length-parts}
+use Rattle.octets.proofs.Bytes.{length-parts}
 use Rattle.vectors.specs.Records.{numberAt, block, pastBlock, ranOf, RunAgrees, ImageAgrees, walkedOf, listOf, Walks, unset, WalkAgrees}
 
 pub never : {A : Type 0} → false ≡ true → A
@@ -86,14 +86,14 @@ module _ (s : State) (ws buffer : List ℕ) (w : Written) (ew : w ≡ writtenOf 
 
 -- ---- a run
 
-pub run-agrees : (rest image list filled ws answer end last : List ℕ) (r : Reading) (ran : Ran) (n m b d : ℕ) → length list ≡ 4096
+pub run-agrees : (rest image list filled ws answer end last : List ℕ) (r : Reading) (ran : Ran) (n m b m′ b′ d : ℕ) → length list ≡ 4096
     → image ≡ block rest → r ≡ readOf (length list) image → filled ≡ listAfter image list → n ≡ numberOf (r .reply) → n ≡ 0
     → ws ≡ take (r .count) filled → ran ≡ runOf (r .state) ws → answer ≡ pastBlock rest
-    → m ≡ numberOf (ran .reply) → b ≡ getD answer 0 0 → m ≡ b
-    → d ≡ numberAt 1 4 answer → ran .done ≡ d
-    → end ≡ drop 5 answer → last ≡ block end → imageOf (ran .state) [] ≡ last
+    → m ≡ numberOf (ran .reply) → b ≡ getD answer 0 0 → m ≡ b → m′ ≡ numberOf (ran .refused) → b′ ≡ getD answer 1 0 → m′ ≡ b′
+    → d ≡ numberAt 2 4 answer → ran .done ≡ d
+    → end ≡ drop 6 answer → last ≡ block end → imageOf (ran .state) [] ≡ last
     → RunAgrees rest
-run-agrees rest image list filled ws answer end last r ran n m b d room ei er ef en z ews eran ea em eb tb ed td ee el h =
+run-agrees rest image list filled ws answer end last r ran n m b m′ b′ d room ei er ef en z ews eran ea em eb tb em′ eb′ tb′ ed td ee el h =
     let nought : numberOf (r .reply) ≡ 0 = sym en ∙ z in
     let words : ws ≡ wordsOf image = ews ∙ words-read image list r er nought filled ef in
     let state : r .state ≡ stateOf image = state-read image list r er nought in
@@ -101,8 +101,9 @@ run-agrees rest image list filled ws answer end last r ran n m b d room ei er ef
     record {
       whole = ap (λ (x : Reading). numberOf (x .reply)) (ap₂ readOf (sym room) (sym ei) ∙ sym er) ∙ nought;
       reply = ap (λ (x : Ran). numberOf (x .reply)) (sym is) ∙ sym em ∙ tb ∙ eb ∙ ap (λ (l : List ℕ). getD l 0 0) ea;
-      done = ap (λ (x : Ran). x .done) (sym is) ∙ td ∙ ed ∙ ap (numberAt 1 4) ea;
-      after = ap (λ (x : Ran). imageOf (x .state) []) (sym is) ∙ h ∙ el ∙ ap block (ee ∙ ap (drop 5) ea);
+      refused = ap (λ (x : Ran). numberOf (x .refused)) (sym is) ∙ sym em′ ∙ tb′ ∙ eb′ ∙ ap (λ (l : List ℕ). getD l 1 0) ea;
+      done = ap (λ (x : Ran). x .done) (sym is) ∙ td ∙ ed ∙ ap (numberAt 2 4) ea;
+      after = ap (λ (x : Ran). imageOf (x .state) []) (sym is) ∙ h ∙ el ∙ ap block (ee ∙ ap (drop 6) ea);
     }
 
 -- ---- an image

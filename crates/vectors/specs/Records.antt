@@ -9,13 +9,10 @@ use Rattle.machine.specs.declared.Ran.{Ran}
 use Rattle.machine.specs.Step.{runOf}
 use Rattle.walk.specs.declared.Walked.{Walked}
 use Rattle.walk.specs.Walk.{walkOf, wholeOf}
-use Rattle.image.specs.Bytes.{value, parts}
+pub use Rattle.octets.specs.Bytes.{numberAt}
+use Rattle.octets.specs.Bytes.{value, parts}
 use Rattle.image.specs.Image.{imageOf}
 use Rattle.image.specs.Reading.{stateOf, wordsOf, readOf}
-
--- the number of the n bytes from `at` on
-abbrev pub numberAt : ℕ → ℕ → List ℕ → ℕ
-numberAt at n bs = value (take n (drop at bs))
 
 -- ---- a block: a length in four bytes, and then so many bytes
 
@@ -30,7 +27,7 @@ pastBlock bs = drop (value (take 4 bs)) (drop 4 bs)
 abbrev pub Whole : List ℕ → Type 0
 Whole image = numberOf (readOf 4096 image .reply) ≡ 0
 
--- ---- a run: an image; reply (1), done (4), the image after
+-- ---- a run: an image; reply (1), refused (1), done (4), the image after
 
 abbrev pub ranOf : List ℕ → Ran
 ranOf rest = runOf (stateOf (block rest)) (wordsOf (block rest))
@@ -38,8 +35,9 @@ ranOf rest = runOf (stateOf (block rest)) (wordsOf (block rest))
 pub record RunAgrees (rest : List ℕ) : Type 0 where
   pub whole : Whole (block rest)
   pub reply : numberOf (ranOf rest .reply) ≡ getD (pastBlock rest) 0 0
-  pub done : ranOf rest .done ≡ numberAt 1 4 (pastBlock rest)
-  pub after : imageOf (ranOf rest .state) [] ≡ block (drop 5 (pastBlock rest))
+  pub refused : numberOf (ranOf rest .refused) ≡ getD (pastBlock rest) 1 0
+  pub done : ranOf rest .done ≡ numberAt 2 4 (pastBlock rest)
+  pub after : imageOf (ranOf rest .state) [] ≡ block (drop 6 (pastBlock rest))
 
 -- ---- an image: reply (1), the image
 

@@ -4,10 +4,10 @@ ghost use mathlib.Core.Bool.{true};
 ghost use mathlib.Core.List.{[]};
 ghost use mathlib.Core.Path.{_≡_};
 ghost use Prim.Native.Nat.{_≤_};
-ghost use lib.ListN.{length, take, drop, getD};
-ghost use Rattle.image.specs.Bytes.{value, parts};
+ghost use lib.ListN.{length, take, getD};
+ghost use Rattle.octets.specs.Bytes.{value, parts};
 ghost use Rattle.image.specs.Image.{imageOf};
-ghost use Rattle.vectors.specs.Records.{numberAt, block as blockOf, pastBlock, RunAgrees, ImageAgrees, Walks, WalkAgrees, Agrees};
+ghost use Rattle.vectors.specs.Records.{block as blockOf, pastBlock, RunAgrees, ImageAgrees, Walks, WalkAgrees, Agrees};
 use libc::STDIN_FILENO;
 use libc::STDOUT_FILENO;
 use machine::Machine;
@@ -70,8 +70,8 @@ fn compare(bytes: &[u8]) -> Tally {
     let mut left = bytes;
     while 0 < left.len() {
         number = plus(number, 1);
-        let kind = byte(left, 0);
-        let record = after(left, 1);
+        let kind = octets::byte(left, 0);
+        let record = octets::after(left, 1);
         if !is_whole(kind, record) {
             say_malformed(number);
             return tally;
@@ -160,38 +160,6 @@ fn say_differs(number: u64) {
     say_record(number, b" differs\n");
 }
 
-// Parts of the bytes, whatever their length.
-
-// Byte i, or 0 past the end.
-fn byte(bs: &[u8], i: usize) -> u8
-    ensures { λ r. ⌜ r ≡ getD (now (bs .entry)) i 0 ⌝ }
-{
-    if i < bs.len() {
-        return bs[i];
-    }
-    0
-}
-
-// What is left past n bytes.
-fn after(bs: &[u8], n: usize) -> &[u8]
-    ensures { λ r. ⌜ now r ≡ drop n (now (bs .entry)) ⌝ }
-{
-    if bs.len() < n {
-        return &bs[bs.len()..];
-    }
-    &bs[n..]
-}
-
-// The first n bytes, or as many of them as there are.
-fn first(bs: &[u8], n: usize) -> &[u8]
-    ensures { λ r. ⌜ now r ≡ take n (now (bs .entry)) ⌝ }
-{
-    if bs.len() < n {
-        return bs;
-    }
-    &bs[..n]
-}
-
 // The first n words, or as many of them as there are.
 fn first_words(ws: &[u32], n: usize) -> &[u32]
     ensures { λ r. ⌜ now r ≡ take n (now (ws .entry)) ⌝ }
@@ -202,40 +170,12 @@ fn first_words(ws: &[u32], n: usize) -> &[u32]
     &ws[..n]
 }
 
-fn wide(b: u8) -> u64
-    ensures { λ r. ⌜ r ≡ b ⌝ }
-{
-    b as u64
-}
-
-// The number of at most eight bytes, lowest first.
-fn number(bs: &[u8]) -> u64
-    requires { ⌜ length (now bs) ≤ 8 ⌝ }
-    ensures { λ r. ⌜ r ≡ value (now (bs .entry)) ⌝ }
-{
-    let mut v: u64 = 0;
-    let mut i = bs.len();
-    while 0 < i {
-        i -= 1;
-        v = v * 256 + wide(bs[i]);
-    }
-    v
-}
-
-// The number of the n bytes from `at` on.
-fn number_at(bs: &[u8], at: usize, n: usize) -> u64
-    requires { ⌜ n ≤ 8 ⌝ }
-    ensures { λ r. ⌜ r ≡ numberAt at n (now (bs .entry)) ⌝ }
-{
-    number(first(after(bs, at), n))
-}
-
 // A block is a length in four bytes, and then so many bytes.
 
 fn block_length(bs: &[u8]) -> usize
     ensures { λ r. ⌜ r ≡ value (take 4 (now (bs .entry))) ⌝ }
 {
-    number(first(bs, 4)) as usize
+    octets::number_at(bs, 0, 4) as usize
 }
 
 fn has_block(bs: &[u8]) -> bool {
@@ -248,13 +188,13 @@ fn has_block(bs: &[u8]) -> bool {
 fn block(bs: &[u8]) -> &[u8]
     ensures { λ r. ⌜ now r ≡ blockOf (now (bs .entry)) ⌝ }
 {
-    first(after(bs, 4), block_length(bs))
+    octets::first(octets::after(bs, 4), block_length(bs))
 }
 
 fn past_block(bs: &[u8]) -> &[u8]
     ensures { λ r. ⌜ now r ≡ pastBlock (now (bs .entry)) ⌝ }
 {
-    after(after(bs, 4), block_length(bs))
+    octets::after(octets::after(bs, 4), block_length(bs))
 }
 
 // Whether a record's parts fill it.
@@ -281,10 +221,10 @@ fn run_is_whole(rest: &[u8]) -> bool {
         return false;
     }
     let answer = past_block(rest);
-    if answer.len() < 5 {
+    if answer.len() < 6 {
         return false;
     }
-    let end = after(answer, 5);
+    let end = octets::after(answer, 6);
     if !has_block(end) {
         return false;
     }
@@ -292,7 +232,7 @@ fn run_is_whole(rest: &[u8]) -> bool {
 }
 
 fn image_is_whole(rest: &[u8]) -> bool {
-    let end = after(rest, 1);
+    let end = octets::after(rest, 1);
     if !has_block(end) {
         return false;
     }
@@ -307,11 +247,11 @@ fn walk_is_whole(rest: &[u8]) -> bool {
     if asked.len() < 30 {
         return false;
     }
-    let end = after(asked, 30);
+    let end = octets::after(asked, 30);
     if !has_block(end) {
         return false;
     }
-    let places = number_at(asked, 5, 4) as usize;
+    let places = octets::number_at(asked, 5, 4) as usize;
     if PLACES < places {
         return false;
     }
@@ -346,24 +286,28 @@ fn run_agrees(rest: &[u8]) -> bool
     let ran = Machine { state }.run(first_words(&words, count));
     let answer = past_block(rest);
     let reply = ran.reply;
-    if reply.number() != byte(answer, 0) {
+    if reply.number() != octets::byte(answer, 0) {
         return false;
     }
-    if ran.done as u64 != number_at(answer, 1, 4) {
+    let refused = ran.refused;
+    if refused.number() != octets::byte(answer, 1) {
+        return false;
+    }
+    if ran.done as u64 != octets::number_at(answer, 2, 4) {
         return false;
     }
     let last = ran.state;
-    state_is(last, block(after(answer, 5)))
+    state_is(last, block(octets::after(answer, 6)))
 }
 
 fn image_agrees(rest: &[u8]) -> bool
     ensures { λ r. ⌜ (r ≡ true → ImageAgrees (now (rest .entry))) ⌝ }
 {
-    let image = block(after(rest, 1));
+    let image = block(octets::after(rest, 1));
     let mut words = [0u32; 4096];
     let reading = image::read(image, &mut words);
     let reply = reading.reply;
-    if reply.number() != byte(rest, 0) {
+    if reply.number() != octets::byte(rest, 0) {
         return false;
     }
     if reply.number() != 0 {
@@ -378,7 +322,7 @@ fn walk_agrees(rest: &[u8]) -> bool
     ensures { λ r. ⌜ (r ≡ true → WalkAgrees (now (rest .entry))) ⌝ }
 {
     let asked = past_block(rest);
-    let places = number_at(asked, 5, 4) as usize;
+    let places = octets::number_at(asked, 5, 4) as usize;
     if PLACES < places {
         return false;
     }
@@ -402,18 +346,27 @@ fn walk_is(state: State, asked: &[u8], list: &mut [u64]) -> bool
     let m = register(asked, 2);
     let d = register(asked, 3);
     let k = register(asked, 4);
-    let walked = walk::walk(state, size, n, m, d, k, list, number_at(asked, 9, 8));
+    let walked = walk::walk(
+        state,
+        size,
+        n,
+        m,
+        d,
+        k,
+        list,
+        octets::number_at(asked, 9, 8),
+    );
     let reply = walked.reply;
-    if reply.number() != byte(asked, 17) {
+    if reply.number() != octets::byte(asked, 17) {
         return false;
     }
-    if walked.count != number_at(asked, 18, 8) {
+    if walked.count != octets::number_at(asked, 18, 8) {
         return false;
     }
-    if walked.visited as u64 != number_at(asked, 26, 4) {
+    if walked.visited as u64 != octets::number_at(asked, 26, 4) {
         return false;
     }
-    let end = after(asked, 30);
+    let end = octets::after(asked, 30);
     let last = walked.state;
     if !state_is(last, block(end)) {
         return false;
@@ -424,7 +377,7 @@ fn walk_is(state: State, asked: &[u8], list: &mut [u64]) -> bool
 fn register(bs: &[u8], i: usize) -> u32
     ensures { λ r. ⌜ r ≡ getD (now (bs .entry)) i 0 ⌝ }
 {
-    byte(bs, i) as u32
+    octets::byte(bs, i) as u32
 }
 
 // Whether the image of a state and words is these bytes.
@@ -438,7 +391,7 @@ fn image_is(state: State, words: &[u32], image: &[u8]) -> bool
         return false;
     }
     let length = written.length;
-    check::same(first(&buffer, length), image)
+    check::same(octets::first(&buffer, length), image)
 }
 
 fn state_is(state: State, image: &[u8]) -> bool
@@ -455,7 +408,7 @@ fn list_is(list: &[u64], bs: &[u8]) -> bool
 {
     let mut i = 0;
     while i < list.len() {
-        if list[i] != number_at(bs, i * 8, 8) {
+        if list[i] != octets::number_at(bs, i * 8, 8) {
             return false;
         }
         i += 1;

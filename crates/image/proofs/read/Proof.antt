@@ -7,8 +7,8 @@ use Rattle.image.proofs.read.Tie as tie
 image-reply-requires : tie.Need-image-reply-requires
 image-reply-requires c κs = search needs
 
-number-requires : tie.Need-number-requires
-number-requires c κs = search needs
+is-done-requires : tie.Need-is-done-requires
+is-done-requires c κs = search needs
 
 blank-requires : tie.Need-blank-requires
 blank-requires c κs = search needs
@@ -16,8 +16,8 @@ blank-requires c κs = search needs
 returns : tie.Need-returns
 returns c = (search (needs, read-refused), search (needs, list-refused))
 
-words-at-requires : tie.Need-words-at-requires
-words-at-requires c κs = search needs
+start-of-requires : tie.Need-start-of-requires
+start-of-requires c κs = search needs
 
 count-of-requires : tie.Need-count-of-requires
 count-of-requires c κs = search needs
@@ -36,12 +36,14 @@ same-length c = search needs
 
 returns-2 : tie.Need-returns-2
 returns-2 c =
-    let e = c .before .before .before .before .before .before .before .before in
-    let rest = c .before .before .before .before .before .before .before .words-at .ensures in
-    let count = c .before .before .before .before .before .before .count-of .ensures in (
-      read-done _ _ _ _ (e .before .before .image-reply .ensures) (e .before .number .ensures) _ _ _ (e .if1 .left) (c .state-of .ensures) rest count,
-      list-done _ _ _ _ (e .before .before .image-reply .ensures) (e .before .number .ensures) _ _ _ _ (e .if1 .left) rest (c .before .before .before .before .before .after .ensures) count
-          (c .before .before .before .fill .ensures),
+    let f = c .before .before .before in
+    let n = f .before .before .before in
+    let e = n .before .before in
+    let i = e .before .before in
+    let list = i .before .before .before .args .words .now in (
+      read-done _ list _ _ (i .image-reply .ensures) (e .before .is-done .ensures) (e .if1 .left) _ _ (n .before .start-of .ensures) (n .count-of .ensures .0) _ (c .state-of .ensures),
+      list-done _ list _ _ (i .image-reply .ensures) (e .before .is-done .ensures) (e .if1 .left) _ _ (n .before .start-of .ensures) (n .count-of .ensures .0) _ _ (f .before .before .after .ensures)
+          (f .fill .ensures),
     )
 
 pub read-spec : {M : Type 1} → statement M
@@ -49,10 +51,10 @@ read-spec =
     tie.close
     (tie.spec
     image-reply-requires
-    number-requires
+    is-done-requires
     blank-requires
     returns
-    words-at-requires
+    start-of-requires
     count-of-requires
     after-requires
     fill-requires

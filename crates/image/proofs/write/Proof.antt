@@ -1,8 +1,12 @@
 -- `write` meets its contract. Assumes nothing.
-use mathlib.Core.Path.{sym, _∙_}
+use mathlib.Core.Bool.{true}
+use mathlib.Core.Path.{_≡_, sym, _∙_}
 use native.Mathlib.Omega.{arith}
+use lib.ListN.{length}
 use Rattle.replies.specs.declared.Reply.the-variants as R
+use Rattle.registers.specs.Legal.{legal}
 use Rattle.registers.proofs.Registers.{Sized, length-mapped}
+use Rattle.image.specs.Image.{imageOf}
 use Rattle.image.proofs.Writings.{legal-vl, image-length, lawful, reply-illegal, reply-many, reply-small, answer-refused, answer-done}
 use borrow.Author.Needs.{needs}
 use Rattle.image.proofs.write.Statement.{statement}
@@ -10,6 +14,15 @@ use Rattle.image.proofs.write.Tie as tie
 
 ok : (c : tie.Start) → Sized (c .args .state)
 ok c = record { xs = search needs; ps = search (needs, length-mapped) }
+
+is-lawful : (c : tie.Else1) → legal (c .before .before .before .before .args .state) ≡ true
+is-lawful c = lawful _ _ (c .before .is-legal .ensures) (c .if1 .left)
+
+abbrev start : tie.After-image-length → tie.Start
+start c = c .before .before .before .before .before .before
+
+long : (c : tie.After-image-length) → c .image-length .result ≡ length (imageOf (start c .args .state) (start c .args .words .now))
+long c = c .image-length .ensures ∙ sym (image-length (start c .args .state) (ok (start c)) (start c .args .words .now))
 
 is-legal-requires : tie.Need-is-legal-requires
 is-legal-requires c κs = search needs
@@ -24,41 +37,34 @@ refused-requires-2 : tie.Need-refused-requires-2
 refused-requires-2 c κs = search needs
 
 returns-2 : tie.Need-returns-2
-returns-2 c =
-    let e = c .before .before in
-    answer-refused _ _ _ R.NotAllowed _ (reply-many _ _ _ (lawful _ _ (e .before .is-legal .ensures) (e .if1 .left)) (c .before .if2 .taken)) (λ z. omega arith) (c .refused2 .ensures)
+returns-2 c = answer-refused _ _ _ R.NotAllowed _ (reply-many _ _ _ (is-lawful (c .before .before)) (c .before .if2 .taken)) (λ z. omega arith) (c .refused2 .ensures)
 
 image-length-requires : tie.Need-image-length-requires
-image-length-requires c κs =
-    let e = c .before in
-    (legal-vl _ (lawful _ _ (e .before .is-legal .ensures) (e .if1 .left)), omega arith)
+image-length-requires c κs = (legal-vl _ (is-lawful (c .before)), omega arith)
 
 refused-requires-3 : tie.Need-refused-requires-3
 refused-requires-3 c κs = search needs
 
 returns-3 : tie.Need-returns-3
 returns-3 c =
-    let t = c .before in
-    let e = t .before .before .before in
-    let s = e .before .before .before .before in
-    let n = t .before .image-length .ensures ∙ sym (image-length (s .args .state) (ok s) (s .args .words .now)) in
-    answer-refused _ _ _ R.BufferTooSmall _ (reply-small _ _ _ (lawful _ _ (e .before .is-legal .ensures) (e .if1 .left)) (t .before .before .if2 .left) (omega arith)) (λ z. omega arith) (c .refused3 .ensures)
+    let l = c .before .before in
+    let n = long l in
+    answer-refused _ _ _ R.BufferTooSmall _ (reply-small _ _ _ (is-lawful (l .before .before)) (l .before .if2 .left) (omega arith)) (λ z. omega arith) (c .refused3 .ensures)
 
 put-image-requires : tie.Need-put-image-requires
 put-image-requires c κs =
-    let e = c .before .before .before .before in
-    (lawful _ _ (e .before .is-legal .ensures) (e .if1 .left), (omega arith, omega (arith, c .before .before .image-length .ensures)))
+    let l = c .before .before in
+    let n = long l in
+    (is-lawful (l .before .before), (omega arith, omega arith))
 
 same-length : tie.Need-same-length
 same-length c = search needs
 
 returns-4 : tie.Need-returns-4
 returns-4 c =
-    let t = c .before .before .before .before in
-    let e = t .before .before .before in
-    let s = e .before .before .before .before in
-    answer-done _ _ _ _ _ (lawful _ _ (e .before .is-legal .ensures) (e .if1 .left)) (t .before .before .if2 .left) (t .if3 .left)
-    (t .before .image-length .ensures ∙ sym (image-length (s .args .state) (ok s) (s .args .words .now))) (c .before .before .put-image .ensures)
+    let e = c .before .before .before .before in
+    let l = e .before in
+    answer-done _ _ _ _ _ (is-lawful (l .before .before)) (l .before .if2 .left) (e .if3 .left) (long l) (c .before .before .put-image .ensures)
 
 pub write-spec : {M : Type 1} → statement M
 write-spec =

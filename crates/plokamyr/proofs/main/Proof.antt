@@ -1,7 +1,7 @@
 -- `main` is safe: the bytes written lie within the buffer. Assumes nothing.
 use Prim.Native.Nat.{_≤_}
 use lib.ListN.{length}
-use Rattle.image.proofs.Bytes.{part-count}
+use Rattle.octets.proofs.Bytes.{part-count}
 use Rattle.transcript.proofs.Puts.{written-within}
 use borrow.Author.Needs.{needs}
 use Rattle.plokamyr.proofs.main.Statement.{statement}

@@ -1,6 +1,6 @@
 -- `transcript` meets its contract. Assumes nothing.
 use borrow.Author.Needs.{needs}
-use Rattle.image.proofs.Bytes.{bytes-of, part-count}
+use Rattle.octets.proofs.Bytes.{bytes-of, part-count}
 use Rattle.transcript.proofs.Answers.{Fine, refused, whole}
 use Rattle.transcript.proofs.transcript.Statement.{statement}
 use Rattle.transcript.proofs.transcript.Tie as tie

@@ -1,6 +1,6 @@
 -- `first_words` meets its contract. Assumes nothing.
 use mathlib.Core.Path.{refl}
-use Rattle.image.proofs.Bytes.{part-short, part-count}
+use Rattle.octets.proofs.Bytes.{part-short, part-count}
 use borrow.Author.Needs.{needs}
 use Rattle.vectors.proofs.first_words.Statement.{statement}
 use Rattle.vectors.proofs.first_words.Tie as tie

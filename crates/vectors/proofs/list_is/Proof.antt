@@ -6,8 +6,8 @@ use lib.ListN.{length, take, drop, getD}
 use lib.Seq.{ext-getD}
 use borrow.Author.Count.{below-more}
 use borrow.Author.Needs.{needs}
-use Rattle.image.specs.Bytes.{value, parts}
-use Rattle.image.proofs.Bytes.{length-parts, parts-at}
+use Rattle.octets.specs.Bytes.{value, parts}
+use Rattle.octets.proofs.Bytes.{length-parts, parts-at}
 use Rattle.vectors.proofs.Answers.{never}
 use Rattle.vectors.proofs.list_is.Statement.{statement}
 use Rattle.vectors.proofs.list_is.Tie as tie

@@ -2,7 +2,7 @@
 use borrow.Author.Needs.{needs}
 use mathlib.Core.Path.{refl}
 use lib.ListN.{replicate}
-use Rattle.image.proofs.Bytes.{part-count, part-below}
+use Rattle.octets.proofs.Bytes.{part-count, part-below}
 use Rattle.vectors.proofs.Answers.{never, walk-agrees}
 use Rattle.vectors.proofs.walk_agrees.Statement.{statement}
 use Rattle.vectors.proofs.walk_agrees.Tie as tie

@@ -1,0 +1,54 @@
+-- `shape_of` meets its contract. Assumes nothing.
+use Rattle.image.proofs.SectionLaws.{settings-shape, x-shape, p-shape, flags-shape, words-shape, past-shape}
+use borrow.Author.Needs.{needs}
+use Rattle.image.proofs.sections.shape_of.Statement.{statement}
+use Rattle.image.proofs.sections.shape_of.Tie as tie
+
+fixed-requires : tie.Need-fixed-requires
+fixed-requires c κs = search needs
+
+returns : tie.Need-returns
+returns c = search (needs, settings-shape)
+
+fixed-requires-2 : tie.Need-fixed-requires-2
+fixed-requires-2 c κs = search needs
+
+returns-2 : tie.Need-returns-2
+returns-2 c = search (needs, x-shape)
+
+fixed-requires-3 : tie.Need-fixed-requires-3
+fixed-requires-3 c κs = search needs
+
+returns-3 : tie.Need-returns-3
+returns-3 c = search (needs, p-shape)
+
+fixed-requires-4 : tie.Need-fixed-requires-4
+fixed-requires-4 c κs = search needs
+
+returns-4 : tie.Need-returns-4
+returns-4 c = search (needs, flags-shape)
+
+returns-5 : tie.Need-returns-5
+returns-5 c = search (needs, words-shape)
+
+fixed-requires-5 : tie.Need-fixed-requires-5
+fixed-requires-5 c κs = search needs
+
+returns-6 : tie.Need-returns-6
+returns-6 c = search (needs, past-shape)
+
+pub shape-of-spec : {M : Type 1} → statement M
+shape-of-spec =
+    tie.close
+    (tie.spec
+    fixed-requires
+    returns
+    fixed-requires-2
+    returns-2
+    fixed-requires-3
+    returns-3
+    fixed-requires-4
+    returns-4
+    returns-5
+    fixed-requires-5
+    returns-6)

@@ -1,0 +1,2 @@
+-- Laws of bytes. Callers' proofs cite them.
+pub mod Bytes
