@@ -12,8 +12,8 @@ use lib.ListN.{List·getD-eq-default}
 use borrow.Author.Tests.{lt-ltb, eq-eqb, ne-eqb}
 use Rattle.bits.specs.Bits.{testBit, number}
 use Rattle.bits.specs.Search.{count, some, firstFrom, afterLast}
-use Rattle.bits.proofs.Bits.{number-none, number-whole}
-use Rattle.bits.proofs.Searches.{count-add, count-cong, some-yes, some-no, First, first-found, first-is, Last, last-found, last-is, last-le}
+use Rattle.bits.proofs.Bits.{number-none, number-whole, testBit-zero}
+use Rattle.bits.proofs.Searches.{count-add, count-cong, count-none, some-yes, some-no, First, first-found, first-is, Last, last-found, last-is, last-le}
 use Rattle.predicates.specs.declared.Predicate.{Predicate}
 use Rattle.predicates.specs.PredTest.{atLowest, atHighest}
 use Rattle.predicates.specs.Predicate.{bitAt}
@@ -114,6 +114,14 @@ count-words p a b c d ha hb hc hd =
 
 or-none : (a b : ℕ) → bitOr a b ≡ 0 → (a ≡ 0) × (b ≡ 0)
 or-none a b h = (omega (arith, or-add-and a b, and-le-l a b, and-le-r a b), omega (arith, or-add-and a b, and-le-l a b, and-le-r a b))
+
+-- the words past the first are 0
+pub count-first : (p : Predicate) (a : ℕ) → a ≡ count (testBit (word p 0)) 64 → bitOr (bitOr (word p 1) (word p 2)) (word p 3) ≡ 0 → a ≡ count (bitAt p) 256
+count-first p a ha none =
+    let (e, d) = or-none (bitOr (word p 1) (word p 2)) (word p 3) none in
+    let (b, c) = or-none (word p 1) (word p 2) e in
+    let zero : (w : ℕ) → w ≡ 0 → 0 ≡ count (testBit w) 64 = λ w h. sym (ap (λ (v : ℕ). count (testBit v) 64) h ∙ count-none (testBit 0) 64 (λ i l. testBit-zero i)) in
+    omega (arith, count-words p a 0 0 0 ha (zero (word p 1) b) (zero (word p 2) c) (zero (word p 3) d))
 
 some-bit : (p : Predicate) → Words p → (q : ℕ) → q < 4 → (word p q ≡ 0 → ⊥) → not (some (bitAt p) 256) ≡ false
 some-bit p ok q h n =

@@ -108,6 +108,10 @@ impl Predicate {
         ensures { λ r. ⌜ r ≡ countBits (bitAt self) 256 ⌝ }
     {
         let w = self.words;
+        // A vector of at most 512 bits has one word.
+        if (w[1] | w[2] | w[3]) == 0 {
+            return bits::ones(w[0]);
+        }
         bits::ones(w[0]) + bits::ones(w[1]) + bits::ones(w[2]) + bits::ones(w[3])
     }
 
@@ -198,6 +202,11 @@ impl Predicate {
     {
         let end = end_of(size, n);
         let e = bits::element_mask(size);
+        if end <= 64 {
+            return Predicate {
+                words: [e & bits::low_mask(end, 0), 0, 0, 0],
+            };
+        }
         Predicate {
             words: [
                 e & bits::low_mask(end, 0),

@@ -1,12 +1,27 @@
 -- `Predicate::count` meets its contract: the ones of the four words. Assumes nothing.
+use Prim.Native.Nat.{ℕ, _≤_}
 use native.Mathlib.Omega.{arith}
 use borrow.Author.Needs.{needs}
+use Rattle.bits.specs.Search.{count}
 use Rattle.bits.specs.Bits.{testBit}
 use Rattle.bits.proofs.Searches.{count-le}
-use Rattle.predicates.proofs.WordSearch.{count-words}
+use Rattle.predicates.proofs.WordSearch.{count-first, count-words}
 use Rattle.predicates.proofs.Words.{word}
 use Rattle.predicates.proofs.Predicate.count.Statement.{statement}
 use Rattle.predicates.proofs.Predicate.count.Tie as tie
+
+-- the ones of a word
+few : (c : tie.After-ones2) (q : ℕ) → count (testBit (word (c .before .before .before .args .self) q)) 64 ≤ 64
+few c q = count-le (testBit (word (c .before .before .before .args .self) q)) 64
+
+array-read-if1 : tie.Need-array-read-if1
+array-read-if1 c = search needs
+
+array-read-if1-2 : tie.Need-array-read-if1-2
+array-read-if1-2 c = search needs
+
+array-read-if1-3 : tie.Need-array-read-if1-3
+array-read-if1-3 c = search needs
 
 array-read-ones : tie.Need-array-read-ones
 array-read-ones c = search needs
@@ -14,14 +29,14 @@ array-read-ones c = search needs
 ones-requires : tie.Need-ones-requires
 ones-requires c κs = search needs
 
+returns : tie.Need-returns
+returns c = count-first (c .before .before .before .args .self) _ (c .ones .ensures) (c .before .if1 .taken)
+
 array-read-ones-2 : tie.Need-array-read-ones-2
 array-read-ones-2 c = search needs
 
 ones-requires-2 : tie.Need-ones-requires-2
 ones-requires-2 c κs = search needs
-
-add-result : tie.Need-add-result
-add-result c = omega (arith, count-le (testBit (word (c .before .before .before .args .self) 0)) 64, count-le (testBit (word (c .before .before .before .args .self) 1)) 64)
 
 array-read-ones-3 : tie.Need-array-read-ones-3
 array-read-ones-3 c = search needs
@@ -29,10 +44,8 @@ array-read-ones-3 c = search needs
 ones-requires-3 : tie.Need-ones-requires-3
 ones-requires-3 c κs = search needs
 
-add-result-2 : tie.Need-add-result-2
-add-result-2 c =
-    let p = c .before .before .before .before .args .self in
-    omega (arith, count-le (testBit (word p 0)) 64, count-le (testBit (word p 1)) 64, count-le (testBit (word p 2)) 64)
+add-result : tie.Need-add-result
+add-result c = omega (arith, few (c .before) 0, few (c .before) 1)
 
 array-read-ones-4 : tie.Need-array-read-ones-4
 array-read-ones-4 c = search needs
@@ -40,29 +53,42 @@ array-read-ones-4 c = search needs
 ones-requires-4 : tie.Need-ones-requires-4
 ones-requires-4 c κs = search needs
 
-add-result-3 : tie.Need-add-result-3
-add-result-3 c =
-    let p = c .before .before .before .before .before .args .self in
-    omega (arith, count-le (testBit (word p 0)) 64, count-le (testBit (word p 1)) 64, count-le (testBit (word p 2)) 64, count-le (testBit (word p 3)) 64)
+add-result-2 : tie.Need-add-result-2
+add-result-2 c = omega (arith, few (c .before .before) 0, few (c .before .before) 1, few (c .before .before) 2)
 
-returns : tie.Need-returns
-returns c =
-    count-words (c .before .before .before .before .before .args .self) _ _ _ _
-    (c .before .before .before .ones .ensures) (c .before .before .ones2 .ensures) (c .before .ones3 .ensures) (c .ones4 .ensures)
+array-read-ones-5 : tie.Need-array-read-ones-5
+array-read-ones-5 c = search needs
+
+ones-requires-5 : tie.Need-ones-requires-5
+ones-requires-5 c κs = search needs
+
+add-result-3 : tie.Need-add-result-3
+add-result-3 c = let o = c .before .before .before in omega (arith, few o 0, few o 1, few o 2, few o 3)
+
+returns-2 : tie.Need-returns-2
+returns-2 c =
+    let o = c .before .before .before in
+    count-words (o .before .before .before .args .self) _ _ _ _ (o .ones2 .ensures) (c .before .before .ones3 .ensures) (c .before .ones4 .ensures) (c .ones5 .ensures)
 
 pub count-spec : {M : Type 1} → statement M
 count-spec =
     tie.close
     (tie.spec
+    array-read-if1
+    array-read-if1-2
+    array-read-if1-3
     array-read-ones
     ones-requires
+    returns
     array-read-ones-2
     ones-requires-2
-    add-result
     array-read-ones-3
     ones-requires-3
-    add-result-2
+    add-result
     array-read-ones-4
     ones-requires-4
+    add-result-2
+    array-read-ones-5
+    ones-requires-5
     add-result-3
-    returns)
+    returns-2)

@@ -1,17 +1,33 @@
--- `Predicate::first` meets its contract, a word at a time. Assumes nothing.
-use mathlib.Core.Path.{_≡_, ap, ap₂, _∙_}
-use Prim.Native.Nat.{ℕ, _%_, _≤_}
+-- `Predicate::first` meets its contract, a word at a time; where the elements end in the first word the others are 0. Assumes nothing.
+use mathlib.Core.Path.{_≡_, sym, ap, ap₂, _∙_}
+use Prim.Native.Nat.{ℕ, _+_, _%_, _≤_}
 use native.Mathlib.Omega.{arith}
-use lib.Bits.{bitAnd}
+use lib.Bits.{bitAnd, and-zero-r}
 use borrow.Author.Needs.{needs}
+use borrow.Author.Tests.{le-ltb}
 use Rattle.bits.specs.Bits.{number, below}
 use Rattle.bits.specs.Size.{shift}
+use Rattle.bits.proofs.Bits.{number-none}
 use Rattle.bits.proofs.Sizes.{shift-lt}
 use Rattle.predicates.specs.Predicate.{spread, between}
 use Rattle.predicates.proofs.ElementBits.{first-word}
 use Rattle.predicates.proofs.Words.{four-words}
 use Rattle.predicates.proofs.Predicate.first.Statement.{statement}
 use Rattle.predicates.proofs.Predicate.first.Tie as tie
+
+-- a word of the mask under the bits below the end
+word-is : (c : tie.After-element-mask) (at low : ℕ) → at % 64 ≡ 0 → at ≤ 192 → low ≡ number (below (c .before .end-of .result)) at 64
+    → let a = c .before .before .args in bitAnd (c .element-mask .result) low ≡ number (spread (shift (a .size)) (between 0 (a .n))) at 64
+word-is c at low h l e =
+    let a = c .before .before .args in
+    ap₂ bitAnd (c .element-mask .ensures) (e ∙ ap (λ (m : ℕ). number (below m) at 64) (c .before .end-of .ensures)) ∙ first-word (shift (a .size)) (a .n) at (shift-lt (a .size)) h l
+
+-- none is set past the end
+past-is : (c : tie.After-element-mask) (at : ℕ) → at % 64 ≡ 0 → at ≤ 192 → c .before .end-of .result ≤ at
+    → let a = c .before .before .args in 0 ≡ number (spread (shift (a .size)) (between 0 (a .n))) at 64
+unfolding below
+past-is c at h l e =
+    sym (and-zero-r (c .element-mask .result)) ∙ word-is c at 0 h l (sym (number-none (below (c .before .end-of .result)) at 64 (λ i m. le-ltb (at + i) (c .before .end-of .result) (omega arith))))
 
 end-of-requires : tie.Need-end-of-requires
 end-of-requires c κs = search needs
@@ -22,6 +38,13 @@ element-mask-requires c κs = search needs
 low-mask-requires : tie.Need-low-mask-requires
 low-mask-requires c κs = search needs
 
+returns : tie.Need-returns
+returns c =
+    let m = c .before .before in
+    let a = m .before .before .args in
+    four-words (spread (shift (a .size)) (between 0 (a .n))) _ _ _ _ (word-is m 0 _ (omega arith) (omega arith) (c .low-mask .ensures))
+    (past-is m 64 (omega arith) (omega arith) (omega arith)) (past-is m 128 (omega arith) (omega arith) (omega arith)) (past-is m 192 (omega arith) (omega arith) (omega arith))
+
 low-mask-requires-2 : tie.Need-low-mask-requires-2
 low-mask-requires-2 c κs = search needs
 
@@ -31,21 +54,18 @@ low-mask-requires-3 c κs = search needs
 low-mask-requires-4 : tie.Need-low-mask-requires-4
 low-mask-requires-4 c κs = search needs
 
-returns : tie.Need-returns
-returns c =
-    let k = shift (c .before .before .before .before .before .before .args .size) in
-    let n = c .before .before .before .before .before .before .args .n in
-    let w : (at low : ℕ) → at % 64 ≡ 0 → at ≤ 192 → low ≡ number (below (c .before .before .before .before .before .end-of .result)) at 64
-    → bitAnd (c .before .before .before .before .element-mask .result) low ≡ number (spread k (between 0 n)) at 64 =
-    λ at low h l e.
-    ap₂ bitAnd (c .before .before .before .before .element-mask .ensures)
-    (e ∙ ap (λ (m : ℕ). number (below m) at 64) (c .before .before .before .before .before .end-of .ensures))
-    ∙ first-word k n at (shift-lt (c .before .before .before .before .before .before .args .size)) h l in
-    four-words (spread k (between 0 n)) _ _ _ _
-    (w 0 _ (omega arith) (omega arith) (c .before .before .before .low-mask .ensures))
-    (w 64 _ (omega arith) (omega arith) (c .before .before .low-mask2 .ensures))
-    (w 128 _ (omega arith) (omega arith) (c .before .low-mask3 .ensures))
-    (w 192 _ (omega arith) (omega arith) (c .low-mask4 .ensures))
+low-mask-requires-5 : tie.Need-low-mask-requires-5
+low-mask-requires-5 c κs = search needs
+
+returns-2 : tie.Need-returns-2
+returns-2 c =
+    let m = c .before .before .before .before .before in
+    let a = m .before .before .args in
+    four-words (spread (shift (a .size)) (between 0 (a .n))) _ _ _ _
+    (word-is m 0 _ (omega arith) (omega arith) (c .before .before .before .low-mask2 .ensures))
+    (word-is m 64 _ (omega arith) (omega arith) (c .before .before .low-mask3 .ensures))
+    (word-is m 128 _ (omega arith) (omega arith) (c .before .low-mask4 .ensures))
+    (word-is m 192 _ (omega arith) (omega arith) (c .low-mask5 .ensures))
 
 pub first-spec : {M : Type 1} → statement M
 first-spec =
@@ -54,7 +74,9 @@ first-spec =
     end-of-requires
     element-mask-requires
     low-mask-requires
+    returns
     low-mask-requires-2
     low-mask-requires-3
     low-mask-requires-4
-    returns)
+    low-mask-requires-5
+    returns-2)
