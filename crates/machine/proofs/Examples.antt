@@ -59,7 +59,9 @@ read : Decoded → List ℕ
 read (Ours i) = wordOf i ∷ fieldsOf i
 read (Refused r) = []
 
+-- an example by its number in the paper
 pub record Example : Type 0 where
+  pub number : ℕ
   pub got : List ℕ
   pub wanted : List ℕ
 
@@ -69,24 +71,24 @@ one i a b = after (start a b 0 0) i
 
 pub examples : List Example
 examples =
-    record { got = one (While Less true (One true 0) Sz.S 1 2) 10 13; wanted = gives 0b1010 10 0x0111 0 0 }
-    ∷ record { got = one (While LessEqual false (One true 0) Sz.B 1 2) (2 ^ 63 - 2) (2 ^ 63 - 1); wanted = gives 0b1000 (2 ^ 63 - 2) 0xFFFF 0 0 }
-    ∷ record { got = one (While Less false (One true 0) Sz.B 1 2) (2 ^ 63 - 2) (2 ^ 63 - 1); wanted = gives 0b1010 (2 ^ 63 - 2) 0x0001 0 0 }
-    ∷ record { got = one (While Greater true (One true 0) Sz.H 1 2) 5 2; wanted = gives 0b0000 5 0x5400 0 0 }
-    ∷ record { got = one (While Greater true (Pair 0) Sz.D 1 2) 3 2; wanted = gives 0b0000 3 0x0000 0x0100 0 }
-    ∷ record { got = one (While GreaterEqual true (One true 0) Sz.S 1 2) 0 0; wanted = gives 0b1000 0 0x1111 0 0 }
-    ∷ record { got = one (While LessEqual false (Counter false 0) Sz.S 1 2) 0 2; wanted = gives 0b1010 0 0 0 0x001C }
-    ∷ record { got = one (While LessEqual false (Counter false 0) Sz.S 1 2) 0 7; wanted = gives 0b1000 0 0 0 0x8004 }
-    ∷ record { got = one (While Greater false (Counter false 0) Sz.S 1 2) 3 0; wanted = gives 0b0000 3 0 0 0x802C }
-    ∷ record { got = after (start 0 0 0 0x0024) (Pnext Sz.B 1 0); wanted = gives 0b1010 0 0x0004 0x0024 0 }
-    ∷ record { got = after (start 0 0 0x0004 0x0024) (Pnext Sz.B 1 0); wanted = gives 0b0000 0 0x0020 0x0024 0 }
-    ∷ record { got = after (start 0 0 0x0020 0x0024) (Pnext Sz.B 1 0); wanted = gives 0b0110 0 0x0000 0x0024 0 }
-    ∷ record { got = after (start 0 0 0 0x0022) (Pnext Sz.S 1 0); wanted = gives 0b0110 0 0x0000 0x0022 0 }
-    ∷ record { got = after (start 0xFFFFFFFF80000001 0 0 0x0007) (Saturating true false false Sz.B 1 1); wanted = gives 0b0000 0xFFFFFFFF80000000 0 0x0007 0 }
-    ∷ record { got = after (start (2 ^ 64 - 1) 0 0 0x0003) (IncDec false Sz.B 1 1); wanted = gives 0b0000 1 0 0x0003 0 }
-    ∷ record { got = read (decodeOf 0x25A24438); wanted = read (Ours (While LessEqual false (Counter false 0) Sz.S 1 2)) }
-    ∷ record { got = read (decodeOf 0x25E55893); wanted = read (Ours (While Greater true (Pair 1) Sz.D 4 5)) }
-    ∷ record { got = read (decodeOf 0x252A8C23); wanted = read (Ours (Saturating true false true Sz.B 1 3)) }
+    record { number = 1; got = one (While Less true (One true 0) Sz.S 1 2) 10 13; wanted = gives 0b1010 10 0x0111 0 0 }
+    ∷ record { number = 2; got = one (While LessEqual false (One true 0) Sz.B 1 2) (2 ^ 63 - 2) (2 ^ 63 - 1); wanted = gives 0b1000 (2 ^ 63 - 2) 0xFFFF 0 0 }
+    ∷ record { number = 3; got = one (While Less false (One true 0) Sz.B 1 2) (2 ^ 63 - 2) (2 ^ 63 - 1); wanted = gives 0b1010 (2 ^ 63 - 2) 0x0001 0 0 }
+    ∷ record { number = 4; got = one (While Greater true (One true 0) Sz.H 1 2) 5 2; wanted = gives 0b0000 5 0x5400 0 0 }
+    ∷ record { number = 5; got = one (While Greater true (Pair 0) Sz.D 1 2) 3 2; wanted = gives 0b0000 3 0x0000 0x0100 0 }
+    ∷ record { number = 6; got = one (While GreaterEqual true (One true 0) Sz.S 1 2) 0 0; wanted = gives 0b1000 0 0x1111 0 0 }
+    ∷ record { number = 7; got = one (While LessEqual false (Counter false 0) Sz.S 1 2) 0 2; wanted = gives 0b1010 0 0 0 0x001C }
+    ∷ record { number = 8; got = one (While LessEqual false (Counter false 0) Sz.S 1 2) 0 7; wanted = gives 0b1000 0 0 0 0x8004 }
+    ∷ record { number = 9; got = one (While Greater false (Counter false 0) Sz.S 1 2) 3 0; wanted = gives 0b0000 3 0 0 0x802C }
+    ∷ record { number = 10; got = after (start 0 0 0 0x0024) (Pnext Sz.B 1 0); wanted = gives 0b1010 0 0x0004 0x0024 0 }
+    ∷ record { number = 10; got = after (start 0 0 0x0004 0x0024) (Pnext Sz.B 1 0); wanted = gives 0b0000 0 0x0020 0x0024 0 }
+    ∷ record { number = 10; got = after (start 0 0 0x0020 0x0024) (Pnext Sz.B 1 0); wanted = gives 0b0110 0 0x0000 0x0024 0 }
+    ∷ record { number = 11; got = after (start 0 0 0 0x0022) (Pnext Sz.S 1 0); wanted = gives 0b0110 0 0x0000 0x0022 0 }
+    ∷ record { number = 12; got = after (start 0xFFFFFFFF80000001 0 0 0x0007) (Saturating true false false Sz.B 1 1); wanted = gives 0b0000 0xFFFFFFFF80000000 0 0x0007 0 }
+    ∷ record { number = 13; got = after (start (2 ^ 64 - 1) 0 0 0x0003) (IncDec false Sz.B 1 1); wanted = gives 0b0000 1 0 0x0003 0 }
+    ∷ record { number = 14; got = read (decodeOf 0x25A24438); wanted = read (Ours (While LessEqual false (Counter false 0) Sz.S 1 2)) }
+    ∷ record { number = 14; got = read (decodeOf 0x25E55893); wanted = read (Ours (While Greater true (Pair 1) Sz.D 4 5)) }
+    ∷ record { number = 14; got = read (decodeOf 0x252A8C23); wanted = read (Ours (Saturating true false true Sz.B 1 3)) }
     ∷ []
 
 pub fourteen : map (λ e. e .got) examples ≡ map (λ e. e .wanted) examples

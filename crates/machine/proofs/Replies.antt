@@ -17,7 +17,8 @@ use Rattle.registers.specs.Legal.{legal}
 use Rattle.words.specs.declared.Decoded.{Decoded}
 use Rattle.words.specs.declared.Decoded.the-variants.{Ours, Refused}
 use Rattle.words.specs.declared.Instruction.{Instruction}
-use Rattle.words.specs.Words.{Form, forms, reads, instructionIn, readBy, decodeOf, levelOf}
+use Rattle.words.specs.Words.{Form, forms, reads, instructionIn, readBy, decodeOf, wordOf, inRange, levelOf}
+use Rattle.words.proofs.RoundTrip.{read-written}
 use Rattle.instructions.specs.Operands.{registersOf}
 use Rattle.machine.specs.declared.Stepped.{Stepped}
 use Rattle.machine.specs.Execute.{executeOf}
@@ -110,6 +111,10 @@ accepted-step s w i h e = go Done (exactly-when s w Done .0 e) refl
     go LevelTooLow (low j ok b l) z = let n : _≡_ {A = ℕ} 0 1 = cc in absurd (omega arith)
     go AccessOff (off j ok b l a) z = let n : _≡_ {A = ℕ} 0 1 = cc in absurd (omega arith)
     go Done (done j ok b l a) z = ap (λ (t : Stepped). t .state) (reply-is s w ok i h Done (by-access s w ok i h true a (let same : levelOf j ≡ levelOf i = ap levelOf (let k : j ≡ i = cc in k) in omega arith)))
+
+-- and so is the step of an instruction's own word
+pub instruction-step : (s : State) (i : Instruction) → inRange i ≡ true → stepOf s (wordOf i) .reply ≡ Done → stepOf s (wordOf i) .state ≡ executeOf s i
+instruction-step s i h e = accepted-step s (wordOf i) i (read-written i h) e
 
 -- a reply other than 0 leaves the state as it was
 pub refused-step : (s : State) (w : ℕ) → (stepOf s w .reply ≡ Done → ⊥) → stepOf s w .state ≡ s
