@@ -2,12 +2,12 @@
  *
  * Every call is answered: nothing is left to the caller to check but what C cannot say. What the caller owes:
  *   - a pointer with a count is valid for that many elements (null will do where the count is 0), and aligned as its type;
- *   - `state`, `row` and `word` are valid pointers, never null;
- *   - the buffers of one call do not overlap;
+ *   - `state`, `flags`, `x`, `p`, `row` and `word` are valid pointers, never null;
+ *   - what is lent to one call does not overlap;
  *   - a bool is 0 or 1;
  *   - there are 32 KB of stack.
  * A refusal carries its number and leaves every lent state and buffer as it was; PLOKAMYR_BUDGET_SPENT alone keeps the positions written so far.
- * States by value are answered anew: a run answers with what the words before the refused one left.
+ * A run that comes to a refused word is not refused itself: it stops there, and what the words before it did stays.
  * No function keeps a pointer, allocates, or has state of its own: calls from several threads do not meet.
  */
 #ifndef PLOKAMYR_H
@@ -61,19 +61,34 @@ struct plokamyr_state {
 
 /* ---- steps ---- */
 
-/* Executes one instruction word on the state where it stands. Refusals, the first that applies: 4, 1, 2, 3. */
-enum plokamyr_reply plokamyr_step(struct plokamyr_state *state, uint32_t word);
+/* Executes one instruction word on a state whose parts stand anywhere. Nothing is copied. Refusals, the first that applies: 4, 1, 2, 3. */
+enum plokamyr_reply plokamyr_step_parts(uint64_t vl, uint8_t level, bool access, struct plokamyr_flags *flags, uint64_t x[31],
+                                        struct plokamyr_predicate p[16], uint32_t word);
 
-/* done words were executed, and state is what they left; reply is that to the word after them, or 0 if there is none. */
+/* The same on a state where it stands. */
+static inline enum plokamyr_reply plokamyr_step(struct plokamyr_state *state, uint32_t word) {
+    return plokamyr_step_parts(state->vl, state->level, state->access, &state->flags, state->x, state->p, word);
+}
+
+/* The same by way of a step that hands the state in and back: slower, since it copies the state. */
+enum plokamyr_reply plokamyr_step_lent(struct plokamyr_state *state, uint32_t word);
+
+/* done words were executed; refused is the reply to the word after them, or 0 if there is none. For a refusal of the run: 0 and 0. */
 struct plokamyr_ran {
     enum plokamyr_reply reply;
+    enum plokamyr_reply refused;
     size_t done;
-    struct plokamyr_state state;
 };
 
-/* Executes words one after the other until one is refused. An illegal state is refused (4) even if there are no words.
- * The faster way for more than one word. */
-struct plokamyr_ran plokamyr_run(struct plokamyr_state state, const uint32_t *words, size_t count);
+/* Executes words one after the other, until one is refused (1, 2 or 3), on a state whose parts stand anywhere: they hold what the words done left.
+ * Refusal: 4, even if there are no words. The faster way for more than one word. */
+struct plokamyr_ran plokamyr_run_parts(uint64_t vl, uint8_t level, bool access, struct plokamyr_flags *flags, uint64_t x[31],
+                                       struct plokamyr_predicate p[16], const uint32_t *words, size_t count);
+
+/* The same on a state where it stands. */
+static inline struct plokamyr_ran plokamyr_run(struct plokamyr_state *state, const uint32_t *words, size_t count) {
+    return plokamyr_run_parts(state->vl, state->level, state->access, &state->flags, state->x, state->p, words, count);
+}
 
 /* ---- the walk ---- */
 

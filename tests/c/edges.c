@@ -43,13 +43,23 @@ static struct plokamyr_state illegal(int number) {
 
 /* ---- step */
 
+/* A step in place and one over a lent state give the same reply and leave the same state, which is answered. */
+static struct plokamyr_state both_steps(const struct plokamyr_state *s, uint32_t word, enum plokamyr_reply reply) {
+    static GUARDED(struct plokamyr_state value) in_place, lent;
+    FILL(in_place);
+    FILL(lent);
+    in_place.value = lent.value = *s;
+    CHECK(plokamyr_step(&in_place.value, word) == reply);
+    CHECK(plokamyr_step_lent(&lent.value, word) == reply);
+    CHECK(same_state(&in_place.value, &lent.value));
+    CHECK_GUARDS(in_place);
+    CHECK_GUARDS(lent);
+    return in_place.value;
+}
+
 static void expect_step(const struct plokamyr_state *s, uint32_t word, enum plokamyr_reply reply) {
-    static GUARDED(struct plokamyr_state value) box;
-    FILL(box);
-    box.value = *s;
-    CHECK(plokamyr_step(&box.value, word) == reply);
-    CHECK(same_state(&box.value, s));
-    CHECK_GUARDS(box);
+    struct plokamyr_state after = both_steps(s, word, reply);
+    CHECK(same_state(&after, s));
 }
 
 static void step_refusals(void) {
@@ -70,49 +80,84 @@ static void step_refusals(void) {
     }
 }
 
+/* Words of every form, one after the other from states of every length. */
+static void steps_agree(void) {
+    static const uint32_t fixed[13] = {0x25200000, 0x25205010, 0x25204010, 0x25288800, 0x25288C00, 0x252C8800, 0x252D8800,
+                                       0x25208000, 0x25208200, 0x2519C400, 0x2558C000, 0x2550C000, 0x2518E400};
+    static const uint32_t drawn[13] = {0x00DF1FFF, 0x00DF0FEF, 0x00DF2FEF, 0x00C301FF, 0x00C301FF, 0x00C001FF, 0x00C001FF,
+                                       0x00C03DFF, 0x00C005FF, 0x00C001EF, 0x000001EF, 0x00003DE0, 0x0000000F};
+    for (int i = 0; i < 5; i++) {
+        struct plokamyr_state s = sample(lengths[i]);
+        for (uint64_t at = 0; at < 13 * 40; at++) {
+            s.x[at % 31] = mixed(at) % 300; /* small, so that a WHILE may end within the vector */
+            s.p[at % 16].words[0] |= mixed(at + 1) & live(lengths[i], 0); /* PFALSE must not leave all empty */
+            s = both_steps(&s, fixed[at % 13] | ((uint32_t)mixed(at + 2) & drawn[at % 13]), PLOKAMYR_DONE);
+        }
+    }
+}
+
 /* ---- run */
 
-static void expect_run(const struct plokamyr_state *s, const uint32_t *words, size_t count, enum plokamyr_reply reply) {
-    struct plokamyr_state given = *s;
+static GUARDED(struct plokamyr_state value) runner;
+
+static struct plokamyr_ran run_from(const struct plokamyr_state *s, const uint32_t *words, size_t count) {
+    FILL(runner);
+    runner.value = *s;
     poison_stack();
-    struct plokamyr_ran ran = plokamyr_run(given, words, count);
+    struct plokamyr_ran ran = plokamyr_run(&runner.value, words, count);
+    CHECK_GUARDS(runner);
+    return ran;
+}
+
+/* A run that does nothing. */
+static void expect_run(const struct plokamyr_state *s, const uint32_t *words, size_t count, enum plokamyr_reply reply, enum plokamyr_reply refused) {
+    struct plokamyr_ran ran = run_from(s, words, count);
     CHECK(ran.reply == reply);
+    CHECK(ran.refused == refused);
     CHECK(ran.done == 0);
-    CHECK(same_state(&ran.state, s));
-    CHECK(same_state(&given, s));
+    CHECK(same_state(&runner.value, s));
 }
 
 static void run_refusals(void) {
     static const uint32_t words[2] = {PFALSE, 0};
     for (int i = 0; i < ILLEGAL; i++) {
         struct plokamyr_state s = illegal(i);
-        expect_run(&s, NULL, 0, PLOKAMYR_ILLEGAL_STATE);
-        expect_run(&s, words, 0, PLOKAMYR_ILLEGAL_STATE);
-        expect_run(&s, words, 2, PLOKAMYR_ILLEGAL_STATE);
-        expect_run(&s, words + 1, 1, PLOKAMYR_ILLEGAL_STATE);
+        expect_run(&s, NULL, 0, PLOKAMYR_ILLEGAL_STATE, PLOKAMYR_DONE);
+        expect_run(&s, words, 0, PLOKAMYR_ILLEGAL_STATE, PLOKAMYR_DONE);
+        expect_run(&s, words, 2, PLOKAMYR_ILLEGAL_STATE, PLOKAMYR_DONE);
+        expect_run(&s, words + 1, 1, PLOKAMYR_ILLEGAL_STATE, PLOKAMYR_DONE);
     }
     struct plokamyr_state s = with_level(0);
     s.access = false;
-    expect_run(&s, NULL, 0, PLOKAMYR_DONE);
-    for (int i = 0; i < 6; i++) expect_run(&s, foreign + i, 1, PLOKAMYR_UNKNOWN_WORD);
-    expect_run(&s, words, 2, PLOKAMYR_LEVEL_TOO_LOW);
+    expect_run(&s, NULL, 0, PLOKAMYR_DONE, PLOKAMYR_DONE);
+    expect_run(&s, words, 0, PLOKAMYR_DONE, PLOKAMYR_DONE);
+    for (int i = 0; i < 6; i++) expect_run(&s, foreign + i, 1, PLOKAMYR_DONE, PLOKAMYR_UNKNOWN_WORD);
+    expect_run(&s, words, 2, PLOKAMYR_DONE, PLOKAMYR_LEVEL_TOO_LOW);
     s.level = 3;
-    expect_run(&s, words, 2, PLOKAMYR_ACCESS_OFF);
+    expect_run(&s, words, 2, PLOKAMYR_DONE, PLOKAMYR_ACCESS_OFF);
 }
 
 /* A refused word keeps what those before it did. */
-static void run_stops(void) {
-    static const uint32_t words[5] = {PFALSE, PFALSE + 1, PFALSE + 2, WHILEGE, PFALSE + 3};
-    struct plokamyr_state s = with_level(1), after = s;
+static void expect_three(const struct plokamyr_state *s, const uint32_t *words, size_t count, enum plokamyr_reply refused) {
+    struct plokamyr_state after = *s;
     memset(after.p, 0, 3 * sizeof after.p[0]);
-    struct plokamyr_ran ran = plokamyr_run(s, words, 5);
-    CHECK(ran.reply == PLOKAMYR_LEVEL_TOO_LOW);
-    CHECK(ran.done == 3);
-    CHECK(same_state(&ran.state, &after));
-    ran = plokamyr_run(s, words, 3);
+    struct plokamyr_ran ran = run_from(s, words, count);
     CHECK(ran.reply == PLOKAMYR_DONE);
+    CHECK(ran.refused == refused);
     CHECK(ran.done == 3);
-    CHECK(same_state(&ran.state, &after));
+    CHECK(same_state(&runner.value, &after));
+}
+
+static void run_stops(void) {
+    uint32_t words[5] = {PFALSE, PFALSE + 1, PFALSE + 2, WHILEGE, PFALSE + 3};
+    struct plokamyr_state s = with_level(1);
+    expect_three(&s, words, 3, PLOKAMYR_DONE);
+    expect_three(&s, words, 4, PLOKAMYR_LEVEL_TOO_LOW);
+    expect_three(&s, words, 5, PLOKAMYR_LEVEL_TOO_LOW);
+    for (int i = 0; i < 6; i++) {
+        words[3] = foreign[i];
+        expect_three(&s, words, 5, PLOKAMYR_UNKNOWN_WORD);
+    }
 }
 
 /* ---- walk */
@@ -214,8 +259,7 @@ static struct plokamyr_walked plain_walk(struct plokamyr_state s, struct route r
     size_t visited = 0;
     char next = 'f';
     while (next != 'e' && count < budget) {
-        uint32_t word = walk_word(r, next);
-        s = plokamyr_run(s, &word, 1).state;
+        CHECK(plokamyr_step(&s, walk_word(r, next)) == PLOKAMYR_DONE);
         count++;
         if (next == 'w') {
             next = s.flags.z ? 'e' : 'p';
@@ -525,6 +569,7 @@ static void words_edges(void) {
 
 int main(void) {
     step_refusals();
+    steps_agree();
     run_refusals();
     run_stops();
     walk_registers();

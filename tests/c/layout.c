@@ -6,7 +6,7 @@ static void sizes(void) {
     CHECK(sizeof(struct plokamyr_predicate) == 32);
     CHECK(sizeof(struct plokamyr_flags) == 4);
     CHECK(sizeof(struct plokamyr_state) == 776);
-    CHECK(sizeof(struct plokamyr_ran) == 792);
+    CHECK(sizeof(struct plokamyr_ran) == 16);
     CHECK(sizeof(struct plokamyr_walked) == 800);
     CHECK(sizeof(struct plokamyr_reading) == 792);
     CHECK(sizeof(struct plokamyr_written) == 16);
@@ -25,8 +25,8 @@ static void offsets(void) {
     CHECK(offsetof(struct plokamyr_state, x) == 16);
     CHECK(offsetof(struct plokamyr_state, p) == 264);
     CHECK(offsetof(struct plokamyr_ran, reply) == 0);
+    CHECK(offsetof(struct plokamyr_ran, refused) == 4);
     CHECK(offsetof(struct plokamyr_ran, done) == 8);
-    CHECK(offsetof(struct plokamyr_ran, state) == 16);
     CHECK(offsetof(struct plokamyr_walked, reply) == 0);
     CHECK(offsetof(struct plokamyr_walked, count) == 8);
     CHECK(offsetof(struct plokamyr_walked, visited) == 16);
@@ -74,15 +74,13 @@ static size_t image_of(const struct plokamyr_state *s, const uint32_t *words, si
 /* ---- structs handed back
  *
  * On x86-64 Linux the place for a large one is a hidden first parameter, and the answer is its address. A C compiler names a place of
- * its own there and copies; these types let us name one that has guards. A plokamyr_written is small and comes in registers. */
+ * its own there and copies; these types let us name one that has guards. A plokamyr_ran or plokamyr_written is small and comes in registers. */
 
-typedef struct plokamyr_ran *run_into(struct plokamyr_ran *place, struct plokamyr_state, const uint32_t *, size_t);
 typedef struct plokamyr_walked *walk_into(struct plokamyr_walked *place, struct plokamyr_state, uint32_t, uint32_t, uint32_t, uint32_t, uint32_t,
                                           uint64_t *, size_t, uint64_t);
 typedef struct plokamyr_reading *read_into(struct plokamyr_reading *place, const uint8_t *, size_t, uint32_t *, size_t);
 
 /* volatile, so that no compiler sees through it */
-static run_into *volatile run_in_place = (run_into *)(void (*)(void))plokamyr_run;
 static walk_into *volatile walk_in_place = (walk_into *)(void (*)(void))plokamyr_walk;
 static read_into *volatile read_in_place = (read_into *)(void (*)(void))plokamyr_read;
 
@@ -98,28 +96,6 @@ static void check_fields(const struct plokamyr_state *a, const struct plokamyr_s
     for (int i = 0; i < 16; i++) {
         for (int k = 0; k < 4; k++) CHECK(a->p[i].words[k] == b->p[i].words[k]);
     }
-}
-
-static void check_ran(const struct plokamyr_ran *ran, const struct plokamyr_state *after) {
-    CHECK(ran->reply == PLOKAMYR_UNKNOWN_WORD);
-    CHECK(ran->done == 3);
-    check_fields(&ran->state, after);
-}
-
-static void ran_fields(uint64_t vl) {
-    static const uint32_t words[4] = {0x2518E403, 0x2518E405, 0x2518E40F, 0}; /* PFALSE p3, p5, p15 */
-    static GUARDED(struct plokamyr_ran value) ran;
-    struct plokamyr_state s = sample(vl), after = s;
-    memset(&after.p[3], 0, sizeof after.p[3]);
-    memset(&after.p[5], 0, sizeof after.p[5]);
-    memset(&after.p[15], 0, sizeof after.p[15]);
-    FILL(ran);
-    poison_stack();
-    CHECK(run_in_place(&ran.value, s, words, 4) == &ran.value);
-    CHECK_GUARDS(ran);
-    check_ran(&ran.value, &after);
-    ran.value = plokamyr_run(s, words, 4);
-    check_ran(&ran.value, &after);
 }
 
 static void check_walked(const struct plokamyr_walked *walked, const struct plokamyr_state *after) {
@@ -232,16 +208,84 @@ static void small_fields(void) {
 
 /* ---- the state that is stepped where it stands */
 
+static GUARDED(struct plokamyr_state value) box;
+
+static struct plokamyr_state cleared(struct plokamyr_state s, int p) {
+    memset(&s.p[p], 0, sizeof s.p[p]);
+    return s;
+}
+
 static void stepped_fields(uint64_t vl) {
-    static GUARDED(struct plokamyr_state value) box;
+    enum plokamyr_reply (*const volatile steps[2])(struct plokamyr_state *, uint32_t) = {plokamyr_step, plokamyr_step_lent};
+    struct plokamyr_state s = sample(vl), after = cleared(s, 7);
+    for (int i = 0; i < 2; i++) {
+        FILL(box);
+        box.value = s;
+        poison_stack();
+        CHECK(steps[i](&box.value, 0x2518E407) == PLOKAMYR_DONE); /* PFALSE p7 */
+        check_fields(&box.value, &after);
+        CHECK_GUARDS(box);
+    }
+}
+
+static const uint32_t three_and_none[4] = {0x2518E403, 0x2518E405, 0x2518E40F, 0}; /* PFALSE p3, p5, p15 */
+
+static void check_ran(struct plokamyr_ran ran) {
+    CHECK(ran.reply == PLOKAMYR_DONE);
+    CHECK(ran.refused == PLOKAMYR_UNKNOWN_WORD);
+    CHECK(ran.done == 3);
+}
+
+static void ran_fields(uint64_t vl) {
+    struct plokamyr_state s = sample(vl), after = cleared(cleared(cleared(s, 3), 5), 15);
     FILL(box);
-    box.value = sample(vl);
-    struct plokamyr_state after = box.value;
-    memset(&after.p[7], 0, sizeof after.p[7]);
+    box.value = s;
     poison_stack();
-    CHECK(plokamyr_step(&box.value, 0x2518E407) == PLOKAMYR_DONE); /* PFALSE p7 */
+    check_ran(plokamyr_run(&box.value, three_and_none, 4));
     check_fields(&box.value, &after);
     CHECK_GUARDS(box);
+}
+
+/* Parts that lie apart from each other. */
+static GUARDED(struct plokamyr_flags value) flags;
+static GUARDED(uint64_t value[31]) x;
+static GUARDED(struct plokamyr_predicate value[16]) p;
+
+static void lay_out(const struct plokamyr_state *s) {
+    FILL(flags);
+    FILL(x);
+    FILL(p);
+    flags.value = s->flags;
+    memcpy(x.value, s->x, sizeof x.value);
+    memcpy(p.value, s->p, sizeof p.value);
+}
+
+static void check_parts(const struct plokamyr_state *after) {
+    struct plokamyr_state s = *after;
+    s.flags = flags.value;
+    memcpy(s.x, x.value, sizeof s.x);
+    memcpy(s.p, p.value, sizeof s.p);
+    check_fields(&s, after);
+    CHECK_GUARDS(flags);
+    CHECK_GUARDS(x);
+    CHECK_GUARDS(p);
+}
+
+static void parts_apart(uint64_t vl) {
+    struct plokamyr_state s = sample(vl), after = s;
+    CHECK(plokamyr_step_lent(&after, 0x2550C1E0) == PLOKAMYR_DONE); /* PTEST p0, p15.b writes the flags, */
+    CHECK(plokamyr_step_lent(&after, 0x252C89FE) == PLOKAMYR_DONE); /* INCP x30, p15.b the last register, */
+    CHECK(plokamyr_step_lent(&after, 0x2558C00F) == PLOKAMYR_DONE); /* PFIRST p15.b, p0, p15.b the last predicate */
+    lay_out(&s);
+    poison_stack();
+    static const uint32_t words[3] = {0x2550C1E0, 0x252C89FE, 0x2558C00F};
+    for (int i = 0; i < 3; i++) CHECK(plokamyr_step_parts(vl, 3, true, &flags.value, x.value, p.value, words[i]) == PLOKAMYR_DONE);
+    check_parts(&after);
+    lay_out(&s);
+    poison_stack();
+    check_ran(plokamyr_run_parts(vl, 3, true, &flags.value, x.value, p.value, three_and_none, 4));
+    after = cleared(cleared(cleared(s, 3), 5), 15);
+    check_parts(&after);
 }
 
 int main(void) {
@@ -250,9 +294,10 @@ int main(void) {
     images();
     small_fields();
     for (int i = 0; i < 5; i++) {
-        ran_fields(lengths[i]);
         walked_fields(lengths[i]);
         stepped_fields(lengths[i]);
+        ran_fields(lengths[i]);
+        parts_apart(lengths[i]);
     }
     return finish("layout");
 }

@@ -7,28 +7,47 @@ use std::hint::black_box;
 /// A run is short: so many are timed together.
 const RUNS: usize = 20;
 
-/// The lent step, called for each word.
+/// The step where the state stands, called for each word.
 pub fn step(start: &State, words: &[u32]) -> f64 {
+    each(start, words, State::step)
+}
+
+/// The same by way of the step by value.
+pub fn step_lent(start: &State, words: &[u32]) -> f64 {
+    each(start, words, State::step_lent)
+}
+
+fn each(start: &State, words: &[u32], step: impl Fn(&mut State, u32) -> Reply) -> f64 {
     let mut state = start.clone();
     let time = best(5, (RUNS * words.len()) as u64, || {
         for _ in 0..RUNS {
             state.clone_from(black_box(start));
             for word in words {
-                assert_eq!(black_box(&mut state).step(*word), Reply::Done);
+                assert_eq!(step(black_box(&mut state), *word), Reply::Done);
             }
         }
     });
-    assert_eq!(state, plokamyr::run(start, words).state, "stepped, and run");
+    assert_eq!(state, after(start, words), "stepped, and run");
     time
 }
 
 pub fn run(start: &State, words: &[u32]) -> f64 {
+    let mut state = start.clone();
     best(5, (RUNS * words.len()) as u64, || {
         for _ in 0..RUNS {
-            let ran = black_box(plokamyr::run(black_box(start), words));
-            assert_eq!(ran.reply, Reply::Done);
+            state.clone_from(black_box(start));
+            let ran = black_box(&mut state).run(words);
+            assert_eq!((ran.reply, ran.done), (Reply::Done, words.len()));
         }
     })
+}
+
+/// The state after a run of the words.
+pub fn after(start: &State, words: &[u32]) -> State {
+    let mut state = start.clone();
+    let ran = state.run(words);
+    assert_eq!((ran.reply, ran.done), (Reply::Done, words.len()));
+    state
 }
 
 /// The walk of as many byte positions as the list has places.

@@ -17,7 +17,8 @@ const POSITIONS: u64 = 2_000_000;
 const ROUNDS: usize = 8;
 
 /// What is divided by what, under the table of times.
-const RATIOS: [(&str, &str); 6] = [
+const RATIOS: [(&str, &str); 7] = [
+    ("step, lent", "step"),
     ("step, second program", "step"),
     ("run, second program", "run"),
     ("run, eight forms, qemu", "run, eight forms"),
@@ -28,7 +29,7 @@ const RATIOS: [(&str, &str); 6] = [
 
 const NOTES: &str = "
 step, run: 4,096 words, the eleven forms in turn, their fields drawn at random, at level 3. The library's state after them
-was compared with the second program's. Eight forms: those of levels 1 and 2.
+was compared with the second program's. Step, lent: by way of the step by value. Eight forms: those of levels 1 and 2.
 walk: 2,000,000 byte positions (the second program: 20,000). Instructions are the walk's own, D + 3R + 2.";
 
 const QEMU_NOTES: &str = "
@@ -72,6 +73,7 @@ impl Bench {
         let start = words::start(vl);
         let Bench { table, all, .. } = self;
         table.take("step", column, library::step(&start, all));
+        table.take("step, lent", column, library::step_lent(&start, all));
         table.take("step, second program", column, second::step(&start, all));
         table.take("run", column, library::run(&start, all));
         table.take("run, second program", column, second::run(&start, all));
@@ -84,7 +86,7 @@ impl Bench {
         table.take("run, eight forms", column, library::run(&start, base));
         if let Some(qemu) = &self.qemu {
             let (time, state) = qemu.run(vl);
-            assert_eq!(state, plokamyr::run(&start, base).state, "QEMU's state after the run, and ours");
+            assert_eq!(state, library::after(&start, base), "QEMU's state after the run, and ours");
             table.take("run, eight forms, qemu", column, time / WORDS as f64);
         }
     }

@@ -1,6 +1,6 @@
 //! The second program's times, in ns per instruction. It is slow, so that it is given less to do.
 
-use crate::library::walk_instructions;
+use crate::library::{after, walk_instructions};
 use crate::timing::best;
 use plokamyr::State;
 use std::hint::black_box;
@@ -26,14 +26,14 @@ pub fn step(start: &State, words: &[u32]) -> f64 {
             assert_eq!(model::step(black_box(&mut state), *word), 0);
         }
     });
-    assert_eq!(state, state_of(&plokamyr::run(start, words).state), "the second program, and the library");
+    assert_eq!(state, state_of(&after(start, words)), "the second program, and the library");
     time
 }
 
 pub fn run(start: &State, words: &[u32]) -> f64 {
     let start = state_of(start);
     best(1, words.len() as u64, || {
-        assert_eq!(black_box(model::run(black_box(&start), words)).reply, 0);
+        assert_eq!(black_box(model::run(black_box(&start), words)).done, words.len());
     })
 }
 

@@ -16,18 +16,28 @@ struct Guarded {
     after: [u64; 16],
 }
 
-pub fn step(state: &mut State, word: u32) -> u8 {
+/// What a call answers that changes the state where it stands, and the state after it.
+fn in_place<T>(state: &State, call: impl FnOnce(&mut plokamyr::State) -> T) -> (T, State) {
     let mut guarded = Guarded { before: [CANARY; 16], state: to_library(state), after: [CANARY; 16] };
-    let reply = black_box(&mut guarded).state.step(word);
+    let answer = call(&mut black_box(&mut guarded).state);
     let guarded = black_box(&guarded);
-    assert_eq!((guarded.before, guarded.after), ([CANARY; 16], [CANARY; 16]), "the step wrote past the state");
-    *state = from_library(&guarded.state);
-    number(reply)
+    assert_eq!((guarded.before, guarded.after), ([CANARY; 16], [CANARY; 16]), "the library wrote past the state");
+    (answer, from_library(&guarded.state))
+}
+
+pub fn step(state: &State, word: u32) -> (u8, State) {
+    let (reply, state) = in_place(state, |state| state.step(word));
+    (number(reply), state)
+}
+
+pub fn step_lent(state: &State, word: u32) -> (u8, State) {
+    let (reply, state) = in_place(state, |state| state.step_lent(word));
+    (number(reply), state)
 }
 
 pub fn run(state: &State, words: &[u32]) -> Ran {
-    let ran = plokamyr::run(&to_library(state), words);
-    Ran { reply: number(ran.reply), done: ran.done, state: from_library(&ran.state) }
+    let (ran, state) = in_place(state, |state| state.run(words));
+    Ran { reply: number(ran.reply), refused: number(ran.refused), done: ran.done, state }
 }
 
 pub fn walk(route: &Route, list: &mut [u64]) -> Walked {

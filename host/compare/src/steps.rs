@@ -1,4 +1,4 @@
-//! Single steps, and words one after the other.
+//! Single steps, by either way, and words one after the other.
 
 use crate::boundary;
 use crate::differences::{show_state, show_word, show_words, Differences, Outcome};
@@ -59,12 +59,15 @@ impl Kind for Steps {
     }
 
     fn compare((state, word): &(State, u32), seen: &mut Seen) -> Outcome {
-        let (mut library, mut second) = (state.clone(), state.clone());
-        let reply = boundary::step(&mut library, *word);
+        let (reply, library) = boundary::step(state, *word);
+        let (lent_reply, lent) = boundary::step_lent(state, *word);
+        let mut second = state.clone();
         let second_reply = model::step(&mut second, *word);
         let mut differences = Differences::default();
         differences.field("reply", reply, second_reply);
         differences.state(&library, &second);
+        differences.field("reply, lent", lent_reply, second_reply);
+        differences.state(&lent, &second);
         seen.reply(second_reply);
         match second_reply {
             0 => note_accepted(seen, state, &second, &decode(*word).expect("it was accepted")),
@@ -140,6 +143,7 @@ const RUN_KIND: u64 = 12;
 impl Kind for Runs {
     type Input = (State, Vec<u32>);
     const NAME: &'static str = "runs";
+    /// That of the run, or to the word that it stopped at.
     const REPLIES: &'static [u8] = &[0, 1, 2, 3, 4];
     const FORMS: Forms = Forms::EachAtEachLength;
     const NOTES: &'static [&'static str] = &[
@@ -147,6 +151,7 @@ impl Kind for Runs {
         "illegal without words",
         "more than 100 done",
         "refused at the first word",
+        "refused at a later word",
         "words after a refused one",
     ];
 
@@ -182,6 +187,7 @@ impl Kind for Runs {
         let second = model::run(state, words);
         let mut differences = Differences::default();
         differences.field("reply", library.reply, second.reply);
+        differences.field("refused", library.refused, second.refused);
         differences.field("done", library.done, second.done);
         differences.state(&library.state, &second.state);
         differences.lent("words", &lent, &before);
@@ -196,24 +202,33 @@ fn repeat(state: &State, words: &[u32], ran: &Ran, differences: &mut Differences
     let mut state = state.clone();
     let (mut done, mut reply) = (0, 0);
     while reply == 0 && done < words.len() {
-        reply = boundary::step(&mut state, words[done]);
+        (reply, state) = boundary::step(&state, words[done]);
         done += usize::from(reply == 0);
     }
     differences.field("done, run against steps", ran.done, done);
     differences.state(&ran.state, &state);
     if !words.is_empty() {
-        differences.field("reply, run against steps", ran.reply, reply);
+        differences.field("reply, run against steps", told(ran), reply);
+    }
+}
+
+/// The run's own refusal, or that of the word it stopped at.
+fn told(ran: &Ran) -> u8 {
+    match ran.reply {
+        0 => ran.refused,
+        refusal => refusal,
     }
 }
 
 fn note_run(seen: &mut Seen, state: &State, words: &[u32], ran: &Ran) {
-    seen.reply(ran.reply);
+    seen.reply(told(ran));
     for &word in &words[..ran.done] {
         seen.form(&decode(word).expect("it was executed"), state.vl);
     }
     seen.note_if(words.is_empty(), "no words");
     seen.note_if(words.is_empty() && ran.reply == 4, "illegal without words");
     seen.note_if(ran.done > 100, "more than 100 done");
-    seen.note_if(ran.done == 0 && ran.reply != 0, "refused at the first word");
-    seen.note_if(ran.done + 1 < words.len(), "words after a refused one");
+    seen.note_if(ran.done == 0 && ran.refused != 0, "refused at the first word");
+    seen.note_if(ran.refused != 0 && ran.done + 1 < words.len(), "words after a refused one");
+    seen.note_if(ran.refused != 0 && ran.done > 0, "refused at a later word");
 }

@@ -94,7 +94,7 @@ fn note(seen: &mut Seen, image: &[u8], text: &[u8]) {
         return;
     }
     let ran = model::run(&reading.state, &words[..reading.count]);
-    seen.reply(ran.reply);
+    seen.reply(ran.refused);
     for &word in &words[..ran.done] {
         seen.form(&model::decode(word).expect("it was executed"), reading.state.vl);
     }

@@ -5,9 +5,11 @@ use crate::reply::*;
 use crate::state::State;
 use crate::words::{decode, level};
 
+/// The run's own reply, that to the word it stopped at, and the words done before.
 #[derive(Clone, PartialEq, Eq, Debug)]
 pub struct Ran {
     pub reply: u8,
+    pub refused: u8,
     pub done: usize,
     pub state: State,
 }
@@ -34,13 +36,13 @@ pub fn step(state: &mut State, word: u32) -> u8 {
 pub fn run(state: &State, words: &[u32]) -> Ran {
     let mut state = state.clone();
     if !state.legal() {
-        return Ran { reply: ILLEGAL_STATE, done: 0, state };
+        return Ran { reply: ILLEGAL_STATE, refused: DONE, done: 0, state };
     }
     for (done, &word) in words.iter().enumerate() {
-        let reply = step(&mut state, word);
-        if reply != DONE {
-            return Ran { reply, done, state };
+        let refused = step(&mut state, word);
+        if refused != DONE {
+            return Ran { reply: DONE, refused, done, state };
         }
     }
-    Ran { reply: DONE, done: words.len(), state }
+    Ran { reply: DONE, refused: DONE, done: words.len(), state }
 }

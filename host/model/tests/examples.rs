@@ -210,6 +210,23 @@ fn refusals_of_a_step_in_their_order() {
     assert_eq!(step(&mut state, word), 0);
 }
 
+#[test]
+fn a_run_stops_at_a_refused_word() {
+    let numbers = |ran: Ran| (ran.reply, ran.refused, ran.done);
+    let word = 0x25a2_1c20; // WHILELO p0.s, x1, x2: level 1
+    let mut state = ready();
+    (state.level, state.x[1], state.x[2]) = (1, 10, 13);
+    let ran = run(&state, &[word, word & !(1 << 10), word]);
+    assert_eq!((ran.state.p[0], ran.state.flags), (low(0x0111), nzc(1, 0, 1)));
+    assert_eq!(numbers(ran), (0, 2, 1));
+    assert_eq!(numbers(run(&state, &[word, word])), (0, 0, 2));
+    assert_eq!(numbers(run(&state, &[])), (0, 0, 0));
+    state.vl = 100;
+    let ran = run(&state, &[word, 0]);
+    assert_eq!(ran.state, state);
+    assert_eq!(numbers(ran), (4, 0, 0));
+}
+
 // ---- words ----
 
 #[test]

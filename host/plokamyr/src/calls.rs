@@ -1,30 +1,5 @@
 use crate::{ffi, Reply, State};
 
-/// What [`run`] answers: `done` words were executed, and `state` is what they left.
-/// `reply` is that to the word after them, or done if there is none.
-#[derive(Clone, Debug, PartialEq, Eq)]
-#[must_use]
-pub struct Ran {
-    pub reply: Reply,
-    pub done: usize,
-    pub state: State,
-}
-
-/// Executes words one after the other until one is refused. An illegal state is refused (4) even if there are no words.
-/// The faster way for more than one word.
-///
-/// ```
-/// use plokamyr::{run, Reply, State};
-///
-/// let ran = run(&State::new(128, 1), &[0x25A2_1C20, 0x2519_C401, 0]);
-/// assert_eq!((ran.reply, ran.done), (Reply::UnknownWord, 2));
-/// ```
-pub fn run(state: &State, words: &[u32]) -> Ran {
-    let ffi::Ran { reply, done, state } = ffi::run(state, words);
-    let reply = ffi::reply(reply);
-    Ran { reply, done, state }
-}
-
 /// What [`walk`] answers: `count` instructions were executed, `visited` positions stand at the front of the list, and
 /// `state` is what they left. For a refusal other than 12: 0, 0 and the given state.
 #[derive(Clone, Debug, PartialEq, Eq)]

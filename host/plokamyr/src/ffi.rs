@@ -12,8 +12,8 @@ pub type Number = u32;
 #[repr(C)]
 pub struct Ran {
     pub reply: Number,
+    pub refused: Number,
     pub done: usize,
-    pub state: State,
 }
 
 #[repr(C)]
@@ -58,8 +58,8 @@ const _: () = {
     assert!(offset_of!(State, vl) == 0 && offset_of!(State, level) == 8);
     assert!(offset_of!(State, access) == 9 && offset_of!(State, flags) == 10);
     assert!(offset_of!(State, x) == 16 && offset_of!(State, p) == 264);
-    assert!(size_of::<Ran>() == 792 && offset_of!(Ran, reply) == 0);
-    assert!(offset_of!(Ran, done) == 8 && offset_of!(Ran, state) == 16);
+    assert!(size_of::<Ran>() == 16 && offset_of!(Ran, reply) == 0);
+    assert!(offset_of!(Ran, refused) == 4 && offset_of!(Ran, done) == 8);
     assert!(size_of::<Walked>() == 800 && offset_of!(Walked, reply) == 0);
     assert!(offset_of!(Walked, count) == 8 && offset_of!(Walked, visited) == 16);
     assert!(offset_of!(Walked, state) == 24);
@@ -70,8 +70,26 @@ const _: () = {
 };
 
 extern "C" {
-    fn plokamyr_step(state: *mut State, word: u32) -> Number;
-    fn plokamyr_run(state: State, words: *const u32, count: usize) -> Ran;
+    fn plokamyr_step_parts(
+        vl: u64,
+        level: u8,
+        access: bool,
+        flags: *mut Flags,
+        x: *mut [u64; 31],
+        p: *mut [Predicate; 16],
+        word: u32,
+    ) -> Number;
+    fn plokamyr_step_lent(state: *mut State, word: u32) -> Number;
+    fn plokamyr_run_parts(
+        vl: u64,
+        level: u8,
+        access: bool,
+        flags: *mut Flags,
+        x: *mut [u64; 31],
+        p: *mut [Predicate; 16],
+        words: *const u32,
+        count: usize,
+    ) -> Ran;
     fn plokamyr_walk(
         state: State,
         size: u32,
@@ -96,13 +114,20 @@ pub fn reply(number: Number) -> Reply {
 }
 
 pub fn step(state: &mut State, word: u32) -> Reply {
-    // SAFETY: the state is lent for writing and for this call alone, and its layout is C's.
-    reply(unsafe { plokamyr_step(state, word) })
+    let State { vl, level, access, flags, x, p } = state;
+    // SAFETY: the parts are lent for writing and for this call alone, lie apart, and have C's layout.
+    reply(unsafe { plokamyr_step_parts(*vl, *level, *access, flags, x, p, word) })
 }
 
-pub fn run(state: &State, words: &[u32]) -> Ran {
-    // SAFETY: the slice is readable for its length; the state is a copy.
-    unsafe { plokamyr_run(state.clone(), words.as_ptr(), words.len()) }
+pub fn step_lent(state: &mut State, word: u32) -> Reply {
+    // SAFETY: the state is lent for writing and for this call alone, and its layout is C's.
+    reply(unsafe { plokamyr_step_lent(state, word) })
+}
+
+pub fn run(state: &mut State, words: &[u32]) -> Ran {
+    let State { vl, level, access, flags, x, p } = state;
+    // SAFETY: the slice is readable for its length; of the parts the same holds as for a step.
+    unsafe { plokamyr_run_parts(*vl, *level, *access, flags, x, p, words.as_ptr(), words.len()) }
 }
 
 pub fn walk(state: &State, route: Route, list: &mut [u64], budget: u64) -> Walked {

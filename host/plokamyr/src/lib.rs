@@ -2,7 +2,8 @@
 //!
 //! What C leaves to the caller (valid pointers, buffers that do not overlap, bools of 0 or 1) the types here give.
 //! Every call is answered: a refusal carries its [`Reply`] and leaves every state and buffer as it was, but for
-//! [`Reply::BudgetSpent`], which keeps the work done so far.
+//! [`Reply::BudgetSpent`], which keeps the work done so far. A [run](State::run) that comes to a refused word is not
+//! refused itself.
 //!
 //! Buffers of one call that overlap, for one, do not compile:
 //!
@@ -24,7 +25,7 @@ mod reply;
 mod row;
 mod state;
 
-pub use calls::{read, run, text, text_in, walk, write, Ran, Reading, Walked, Written, IMAGE_MAX, TEXT_MAX, WORDS_MAX};
+pub use calls::{read, text, text_in, walk, write, Reading, Walked, Written, IMAGE_MAX, TEXT_MAX, WORDS_MAX};
 pub use reply::Reply;
 pub use row::{decode, encode, Form, Row};
-pub use state::{Flags, Predicate, State};
+pub use state::{Flags, Predicate, Ran, State};

@@ -89,7 +89,8 @@ impl State {
         State { vl, level, access: true, flags: Flags::default(), x: [0; 31], p: [Predicate::default(); 16] }
     }
 
-    /// Executes one instruction word. Refusals, which leave the state as it was, the first that applies: 4, 1, 2, 3.
+    /// Executes one instruction word where the state stands; nothing is copied.
+    /// Refusals, which leave the state as it was, the first that applies: 4, 1, 2, 3.
     ///
     /// ```
     /// use plokamyr::{Reply, State};
@@ -102,4 +103,40 @@ impl State {
     pub fn step(&mut self, word: u32) -> Reply {
         ffi::step(self, word)
     }
+
+    /// The same as [`step`](State::step), by way of a step that hands the state in and back.
+    /// It copies the state, and is slower: it is there because the papers name it.
+    ///
+    /// ```
+    /// let mut state = plokamyr::State::new(128, 1);
+    /// assert_eq!(state.step_lent(0x2518_E400), plokamyr::Reply::Done); // PFALSE p0
+    /// ```
+    pub fn step_lent(&mut self, word: u32) -> Reply {
+        ffi::step_lent(self, word)
+    }
+
+    /// Executes words one after the other, until one is refused (1, 2 or 3). The state is then what the words done left.
+    /// Refusal, which leaves the state as it was: 4, even if there are no words. The faster way for more than one word.
+    ///
+    /// ```
+    /// use plokamyr::{Ran, Reply, State};
+    ///
+    /// let mut state = State::new(128, 1);
+    /// let ran = state.run(&[0x25A2_1C20, 0x2519_C401, 0]);
+    /// assert_eq!(ran, Ran { reply: Reply::Done, refused: Reply::UnknownWord, done: 2 });
+    /// ```
+    pub fn run(&mut self, words: &[u32]) -> Ran {
+        let ffi::Ran { reply, refused, done } = ffi::run(self, words);
+        Ran { reply: ffi::reply(reply), refused: ffi::reply(refused), done }
+    }
+}
+
+/// What [`State::run`] answers: `done` words were executed; `refused` is the reply to the word after them, or done if
+/// there is none. If the run itself is refused, which `reply` says: done and 0.
+#[derive(Clone, Copy, Debug, PartialEq, Eq)]
+#[must_use]
+pub struct Ran {
+    pub reply: Reply,
+    pub refused: Reply,
+    pub done: usize,
 }

@@ -1,6 +1,6 @@
 //! Each of the thirteen replies, through the wrapper, with what it leaves as it was.
 
-use plokamyr::{decode, encode, read, run, text, text_in, walk, write, Form, Predicate, Reply, Row, State};
+use plokamyr::{decode, encode, read, text, text_in, walk, write, Form, Predicate, Ran, Reply, Row, State};
 
 const PFALSE: u32 = 0x2518_E400;
 
@@ -12,13 +12,20 @@ fn state() -> State {
     state
 }
 
-/// A step that is refused, and a run of that word, leave the state.
+/// A step that is refused leaves the state, by either way.
 fn expect_refused(state: &State, word: u32, reply: Reply) {
     let mut stepped = state.clone();
     assert_eq!(stepped.step(word), reply);
     assert_eq!(&stepped, state);
-    let ran = run(state, &[word, PFALSE]);
-    assert_eq!((ran.reply, ran.done, &ran.state), (reply, 0, state));
+    assert_eq!(stepped.step_lent(word), reply);
+    assert_eq!(&stepped, state);
+}
+
+/// A run that executes none of its words leaves the state.
+fn expect_no_run(state: &State, words: &[u32], reply: Reply, refused: Reply) {
+    let mut ran = state.clone();
+    assert_eq!(ran.run(words), Ran { reply, refused, done: 0 });
+    assert_eq!(&ran, state);
 }
 
 #[test]
@@ -31,8 +38,29 @@ fn steps() {
     let mut past = state();
     past.p[15] = Predicate::from(0x1_0000);
     expect_refused(&past, PFALSE, Reply::IllegalState);
-    assert_eq!(run(&past, &[]).reply, Reply::IllegalState);
-    assert_eq!(run(&state(), &[]).reply, Reply::Done);
+}
+
+#[test]
+fn runs() {
+    expect_no_run(&state(), &[], Reply::Done, Reply::Done);
+    expect_no_run(&state(), &[0, PFALSE], Reply::Done, Reply::UnknownWord);
+    expect_no_run(&State { level: 0, ..state() }, &[PFALSE], Reply::Done, Reply::LevelTooLow);
+    expect_no_run(&State { access: false, ..state() }, &[PFALSE], Reply::Done, Reply::AccessOff);
+    for words in [&[][..], &[PFALSE], &[0]] {
+        expect_no_run(&State { vl: 384, ..state() }, words, Reply::IllegalState, Reply::Done);
+        expect_no_run(&State { level: 4, ..state() }, words, Reply::IllegalState, Reply::Done);
+    }
+}
+
+#[test]
+fn a_refused_word_keeps_those_before_it() {
+    let words = [0x25A2_1C20, PFALSE + 5, 0, PFALSE];
+    let (mut ran, mut stepped, mut lent) = (state(), state(), state());
+    assert_eq!(ran.run(&words), Ran { reply: Reply::Done, refused: Reply::UnknownWord, done: 2 });
+    assert!(words[..2].iter().all(|&word| stepped.step(word) == Reply::Done));
+    assert!(words[..2].iter().all(|&word| lent.step_lent(word) == Reply::Done));
+    assert_eq!((ran.p[0], ran.p[5]), (Predicate::from(0x0111), Predicate::default()));
+    assert_eq!((&ran, &ran), (&stepped, &lent));
 }
 
 /// A walk that is refused leaves state and list.
