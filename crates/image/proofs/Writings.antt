@@ -107,7 +107,8 @@ module _ (s : State) (ok : Sized s) (ws : List ℕ) where
   pub length-words : length (section (le 4) ws) ≡ 4 + length ws * 4
   length-words = section-length (le 4) 4 (length-le 4) ws
 
-  pub image-bytes : length (imageOf s ws) ≡ 275 + 16 * size + 4 * length ws
+  -- section by section
+  pub image-bytes : length (imageOf s ws) ≡ (4 + 3 * 1) + ((4 + 31 * 8) + ((4 + 16 * size) + ((4 + 4 * 1) + (4 + length ws * 4))))
   unfolding imageOf
   image-bytes = simp (length-append, length-settings, length-x, length-p, length-flags, length-words) (omega arith)
 

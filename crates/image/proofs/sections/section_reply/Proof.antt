@@ -11,7 +11,7 @@ abbrev counted : tie.Else3 → tie.After-count-of
 counted c = c .before .before .before .before
 
 most : (c : tie.Else3) → counted c .count-of .result * counted c .before .shape-of .result .item ≤ 4096 * 510
-most c = content-most _ _ _ _ (counted c .before .before .before .before .pre) (counted c .before .shape-of .ensures) (c .if3 .left)
+most c = content-most _ _ _ _ (counted c .before .before .before .before .pre) (counted c .before .shape-of .ensures) (omega arith)
 
 returns : tie.Need-returns
 returns c = search (needs, fault-cut)

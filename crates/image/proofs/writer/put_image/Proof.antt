@@ -32,7 +32,7 @@ ok : (c : tie.Start) → Sized (c .args .state)
 ok c = record { xs = search needs; ps = search (needs, length-mapped) }
 
 -- the image has room for all sections
-room : (c : tie.Start) → 275 + 16 * (c .args .state .vl / 64) + 4 * length (c .args .words .now) ≤ length (c .args .image .now)
+room : (c : tie.Start) → (4 + 3 * 1) + ((4 + 31 * 8) + ((4 + 16 * (c .args .state .vl / 64)) + ((4 + 4 * 1) + (4 + length (c .args .words .now) * 4)))) ≤ length (c .args .image .now)
 room c = let e = image-bytes (c .args .state) (ok c) (c .args .words .now) in omega (arith, c .pre .1 .1)
 
 cast-t15 : tie.Need-cast-t15
