@@ -25,6 +25,7 @@ pub fn image_reply(image: &[u8], room: usize) -> Reply
     Reply::Done
 }
 
+// The state of a refused reading.
 pub fn blank() -> State
     ensures { λ s. ⌜ s ≡ blankState ⌝ }
 {
@@ -44,6 +45,7 @@ fn content_of(image: &[u8], section: usize) -> &[u8]
     octets::after(sections::start_of(image, section), 4)
 }
 
+// The state of an image that has no fault.
 pub fn state_of(image: &[u8]) -> State
     ensures { λ s. ⌜ s ≡ stateOf (now (image .entry)) ⌝ }
 {

@@ -25,6 +25,7 @@ pub struct Shape {
     pub item: usize,
 }
 
+// The sections in their order; past the last an empty one.
 pub fn shape_of(section: usize, vl: u64) -> Shape
     ensures { λ r. ⌜ r ≡ shapeOf (sectionAt (sections vl) section) ⌝ }
 {

@@ -28,6 +28,7 @@ pub fn image_length(vl: u64, words: usize) -> usize
     length
 }
 
+// The whole image, from the first byte on.
 pub fn put_image(image: &mut [u8], state: State, words: &[u32])
     requires { ⌜ (legal state ≡ true) × ((length (now words) ≤ 4096) × (length (imageOf state (now words)) ≤ length (now image))) ⌝ }
     ensures { λ _. ⌜ now (image .exit) ≡ sets (now (image .entry)) 0 (imageOf state (now (words .entry))) ⌝ }

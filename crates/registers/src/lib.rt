@@ -47,6 +47,7 @@ impl State {
         }
     }
 
+    // VL, level and access.
     pub fn settings(self) -> Settings
         ensures { λ r. ⌜ r ≡ settingsOf self ⌝ }
     {

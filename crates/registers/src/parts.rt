@@ -140,6 +140,7 @@ pub fn bits_of_flags(flags: Flags) -> [bool; 4]
     [flags.n, flags.z, flags.c, flags.v]
 }
 
+// Flags of N, Z, C and V.
 pub fn flags_of(bits: [bool; 4]) -> Flags
     ensures { λ r. ⌜ r ≡ flagsAt bits ⌝ }
 {
