@@ -1,9 +1,11 @@
 -- The answers as C has them: each reply by its number, all else as it is.
 use Prim.Native.Nat.{ℕ}
+use mathlib.Core.Bool.{Bool}
 use mathlib.Core.List.{List}
 use mathlib.Core.Path.{_≡_}
 use Rattle.replies.specs.Reply.{numberOf}
 use Rattle.registers.specs.declared.State.{State}
+use Rattle.registers.specs.Parts.{stateAt}
 use Rattle.machine.specs.Step.{stepOf, runOf}
 use Rattle.walk.specs.declared.Walked as Walk
 use Rattle.image.specs.declared.Reading as Image
@@ -12,6 +14,10 @@ use Rattle.capi.specs.declared.Ran.{Ran}
 use Rattle.capi.specs.declared.Walked.{Walked}
 use Rattle.capi.specs.declared.Reading.{Reading}
 use Rattle.capi.specs.declared.Written.{Written}
+
+-- the state of these settings and lent parts
+abbrev pub stateIn : ℕ → ℕ → Bool → List Bool → List ℕ → List (List ℕ) → State
+stateIn vl level access f x p = stateAt (record { vl = vl; level = level; access = access }) f x p
 
 -- a step and a run where the state stands: the answer, and the state before and after
 pub record SteppedParts (answer word : ℕ) (before after : State) : Type 0 where

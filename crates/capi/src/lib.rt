@@ -4,14 +4,13 @@ ghost use lib.ListN.{length};
 ghost use Rattle.replies.specs.declared.Reply.the-variants.{Done};
 ghost use Rattle.replies.specs.Reply.{numberOf};
 ghost use Rattle.words.specs.Words.{sizeOf};
-ghost use Rattle.registers.specs.Parts.{stateAt};
 ghost use Rattle.machine.specs.Step.{stepOf};
 ghost use Rattle.walk.specs.Walk.{refusalOf, walkOf, wholeOf};
 ghost use Rattle.walk.specs.Demand.{Demand3};
 ghost use Rattle.image.specs.Reading.{readOf, listAfter};
 ghost use Rattle.image.specs.Writing.{writtenOf, bufferAfter};
 ghost use Rattle.transcript.specs.Transcript.{transcriptOf, afterAll, placedAll};
-ghost use Rattle.capi.specs.Answers.{SteppedParts, RanParts, walkedAs, readAs, writtenAs};
+ghost use Rattle.capi.specs.Answers.{stateIn, SteppedParts, RanParts, walkedAs, readAs, writtenAs};
 ghost use Rattle.words.specs.Rows.{decodedReply, decodedRow, encodedReply, encodedWord};
 use registers::State;
 use registers::parts::Settings;
@@ -57,8 +56,8 @@ pub extern "C" fn plokamyr_step_parts(
     p: &mut [[u64; 4]; 16],
     word: u32,
 ) -> u32
-    ensures { λ r. ⌜ SteppedParts r word (stateAt (record { vl = vl; level = level; access = access }) (now (flags .entry)) (now (x .entry)) (now (p .entry)))
-        (stateAt (record { vl = vl; level = level; access = access }) (now (flags .exit)) (now (x .exit)) (now (p .exit))) ⌝ }
+    ensures { λ r. ⌜ SteppedParts r word (stateIn vl level access (now (flags .entry)) (now (x .entry)) (now (p .entry)))
+        (stateIn vl level access (now (flags .exit)) (now (x .exit)) (now (p .exit))) ⌝ }
 {
     let settings = Settings { vl, level, access };
     let reply = machine::engine::step(settings, flags, x, p, word);
@@ -76,8 +75,8 @@ pub extern "C" fn plokamyr_run_parts(
     p: &mut [[u64; 4]; 16],
     words: &[u32],
 ) -> Ran
-    ensures { λ r. ⌜ RanParts r (now (words .entry)) (stateAt (record { vl = vl; level = level; access = access }) (now (flags .entry)) (now (x .entry)) (now (p .entry)))
-        (stateAt (record { vl = vl; level = level; access = access }) (now (flags .exit)) (now (x .exit)) (now (p .exit))) ⌝ }
+    ensures { λ r. ⌜ RanParts r (now (words .entry)) (stateIn vl level access (now (flags .entry)) (now (x .entry)) (now (p .entry)))
+        (stateIn vl level access (now (flags .exit)) (now (x .exit)) (now (p .exit))) ⌝ }
 {
     let settings = Settings { vl, level, access };
     let went = machine::engine::run(settings, flags, x, p, words);

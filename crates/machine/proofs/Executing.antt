@@ -11,8 +11,8 @@ use Rattle.predicates.specs.PredTest.{flagsOf}
 use Rattle.predicates.proofs.Flagging.{flags-back}
 use Rattle.registers.specs.declared.State.{State}
 use Rattle.registers.specs.declared.parts.Settings.{Settings}
-use Rattle.registers.specs.Parts.{predicatesOf, flagsAt, stateAt}
-use Rattle.registers.specs.State.{readX, readP, withX, withP, withFlags}
+use Rattle.registers.specs.Parts.{predicatesOf, flagsFrom, stateAt}
+use Rattle.registers.specs.State.{made, readX, readP, withX, withP, withFlags}
 use Rattle.words.specs.declared.Instruction.{Instruction}
 use Rattle.instructions.specs.declared.operands.Registers.{Registers}
 use Rattle.instructions.specs.declared.operands.Values.{Values}
@@ -54,7 +54,7 @@ applied s s₁ s₂ s₃ t r e h₁ h₂ h₃ h₄ =
     h₄ ∙ ap (λ (u : State). withP u (r .pd2) (e .pd2)) (h₃ ∙ ap (λ (u : State). withP u (r .pd) (e .pd)) (h₂ ∙ ap (λ (u : State). withX u (r .rd) (e .rd)) h₁))
 
 pub written : (s : Settings) (f g : List Bool) (x y : List ℕ) (p q o : List (List ℕ)) (r : Registers) (e : Computed)
-    → flagsAt g ≡ pick (r .flags) (flagsOf (e .nzcv)) (flagsAt f) → y ≡ set x (r .rd) (e .rd)
+    → flagsFrom g ≡ pick (r .flags) (flagsOf (e .nzcv)) (flagsFrom f) → y ≡ set x (r .rd) (e .rd)
     → predicatesOf q ≡ set (predicatesOf p) (r .pd) (e .pd) → predicatesOf o ≡ set (predicatesOf q) (r .pd2) (e .pd2)
     → stateAt s g y o ≡ apply (stateAt s f x p) r (effectIn e)
 unfolding apply withP withX withFlags
@@ -63,12 +63,12 @@ written s f g x y p q o r e hf hx hq ho =
     ∙ ap (λ (z : List Predicate). state flags (set x (r .rd) (e .rd)) z) (ho ∙ ap (λ (z : List Predicate). set z (r .pd2) (e .pd2)) hq) ∙ go (r .flags)
   where
     state : Flags → List ℕ → List Predicate → State
-    state k y z = record { vl = s .vl; level = s .level; access = s .access; flags = k; x = y; p = z }
+    state k y z = made (s .vl) (s .level) (s .access) k y z
 
     flags : Flags
-    flags = pick (r .flags) (flagsOf (e .nzcv)) (flagsAt f)
+    flags = pick (r .flags) (flagsOf (e .nzcv)) (flagsFrom f)
 
-    go : (b : Bool) → state (pick b (flagsOf (e .nzcv)) (flagsAt f)) (set x (r .rd) (e .rd)) (set (set (predicatesOf p) (r .pd) (e .pd)) (r .pd2) (e .pd2))
+    go : (b : Bool) → state (pick b (flagsOf (e .nzcv)) (flagsFrom f)) (set x (r .rd) (e .rd)) (set (set (predicatesOf p) (r .pd) (e .pd)) (r .pd2) (e .pd2))
         ≡ withP (withP (withX (pick b (withFlags (stateAt s f x p) (flagsOf (e .nzcv))) (stateAt s f x p)) (r .rd) (e .rd)) (r .pd) (e .pd)) (r .pd2) (e .pd2)
     go true = refl
     go false = refl

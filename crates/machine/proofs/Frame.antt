@@ -32,14 +32,14 @@ beside-flags s true f = record { vl = refl; level = refl; access = refl; x = ref
 beside-flags s false f = record { vl = refl; level = refl; access = refl; x = refl; p = refl }
 
 -- VL, level and access
-pub record Settings (s t : State) : Type 0 where
+pub record SameSettings (s t : State) : Type 0 where
   pub vl : t .vl ≡ s .vl
   pub level : t .level ≡ s .level
   pub access : t .access ≡ s .access
 
 -- an accepted step touches nothing else
 pub record Untouched (s t : State) (r : Registers) : Type 0 where
-  pub settings : Settings s t
+  pub settings : SameSettings s t
   pub x : (n : ℕ) → (n ≡ r .rd → ⊥) → readX t n ≡ readX s n
   pub p : (n : ℕ) → (n ≡ r .pd → ⊥) → (n ≡ r .pd2 → ⊥) → readP t n ≡ readP s n
   pub flags : r .flags ≡ false → t .flags ≡ s .flags
@@ -48,7 +48,7 @@ module _ (s : State) (r : Registers) (e : Effect) where
   abbrev flagged : State
   flagged = pick (r .flags) (withFlags s (e .flags)) s
 
-  keeps-settings : Settings s (apply s r e)
+  keeps-settings : SameSettings s (apply s r e)
   unfolding apply withX withP
   keeps-settings = let k = beside-flags s (r .flags) (e .flags) in record { vl = k .vl; level = k .level; access = k .access }
 

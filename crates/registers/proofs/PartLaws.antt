@@ -1,7 +1,7 @@
 -- The parts of a state: reads and writes of lists of words are reads and writes of predicates. Assumes nothing.
 use mathlib.Core.Bool.{Bool, true, false, not}
 use mathlib.Core.List.{List, [], _∷_, _++_}
-use mathlib.Core.Path.{_≡_, refl, sym, ap, _∙_}
+use mathlib.Core.Path.{_≡_, refl, sym, ap, ap₂, _∙_}
 use Prim.Native.Nat.{ℕ, zero, suc, _+_, _≤_, _<_}
 use native.Mathlib.Numerals.{add-one}
 use native.Mathlib.Nat.{not-suc-le-zero, le-of-suc-le-suc}
@@ -16,9 +16,9 @@ use Rattle.predicates.specs.Predicate.{allFalse, pack, bitAt, predicateLength, 
 use Rattle.predicates.specs.PredTest.{flagsOf}
 use Rattle.registers.specs.declared.State.{State}
 use Rattle.registers.specs.declared.parts.Settings.{Settings}
-use Rattle.registers.specs.State.{readP}
+use Rattle.registers.specs.State.{made, readP}
 use Rattle.registers.specs.Legal.{settingsAllowed, legal}
-use Rattle.registers.specs.Parts.{predicatesOf, flagsAt, stateAt, settingsOf}
+use Rattle.registers.specs.Parts.{predicatesOf, flagsFrom, stateAt, settingsOf}
 use Rattle.registers.proofs.Legality.{allowed, stray-union}
 
 pub predicates-length : (l : List (List ℕ)) → length (predicatesOf l) ≡ length l
@@ -46,12 +46,12 @@ write-out l i q h = sym (set-out (predicatesOf l) i q (rw (predicates-length l) 
 
 -- ---- flags, set or kept
 
-pub flags-kept : (l : List Bool) (sets : Bool) (f : ℕ) → sets ≡ false → flagsAt l ≡ pick sets (flagsOf f) (flagsAt l)
-flags-kept l sets f h = sym (ap (λ (b : Bool). pick b (flagsOf f) (flagsAt l)) h)
+pub flags-kept : (l : List Bool) (sets : Bool) (f : ℕ) → sets ≡ false → flagsFrom l ≡ pick sets (flagsOf f) (flagsFrom l)
+flags-kept l sets f h = sym (ap (λ (b : Bool). pick b (flagsOf f) (flagsFrom l)) h)
 
-pub flags-written : (l : List Bool) (sets : Bool) (f : ℕ) → sets ≡ true → flagsAt (testBit f 3 ∷ testBit f 2 ∷ testBit f 1 ∷ testBit f 0 ∷ []) ≡ pick sets (flagsOf f) (flagsAt l)
+pub flags-written : (l : List Bool) (sets : Bool) (f : ℕ) → sets ≡ true → flagsFrom (testBit f 3 ∷ testBit f 2 ∷ testBit f 1 ∷ testBit f 0 ∷ []) ≡ pick sets (flagsOf f) (flagsFrom l)
 unfolding flagsOf
-flags-written l sets f h = sym (ap (λ (b : Bool). pick b (flagsOf f) (flagsAt l)) h)
+flags-written l sets f h = sym (ap (λ (b : Bool). pick b (flagsOf f) (flagsFrom l)) h)
 
 -- ---- legality, from the union of the predicates
 
@@ -79,8 +79,8 @@ pub parts-are : (s : State) (u : Settings) (f : List Bool) (p : List (List ℕ))
     → stateAt u f (s .x) p ≡ s
 parts-are s u f p hu hf hp =
     ap (λ (v : Settings). stateAt v f (s .x) p) hu ∙ ap (λ (b : List Bool). stateAt (settingsOf s) b (s .x) p) hf
-    ∙ ap (λ (q : List Predicate). record { vl = s .vl; level = s .level; access = s .access; flags = s .flags; x = s .x; p = q }) hp
+    ∙ ap (made (s .vl) (s .level) (s .access) (s .flags) (s .x)) hp
 
-pub made : (u : Settings) (f : List Bool) (g : Flags) (x : List ℕ) (p : List (List ℕ)) (q : List Predicate) (s : State) → g ≡ flagsAt f → q ≡ predicatesOf p
-    → s ≡ record { vl = u .vl; level = u .level; access = u .access; flags = g; x = x; p = q } → s ≡ stateAt u f x p
-made u f g x p q s hg hq h = h ∙ (λ i. record { vl = u .vl; level = u .level; access = u .access; flags = hg i; x = x; p = hq i })
+pub state-made : (u : Settings) (f : List Bool) (g : Flags) (x : List ℕ) (p : List (List ℕ)) (q : List Predicate) (s : State) → g ≡ flagsFrom f → q ≡ predicatesOf p
+    → s ≡ made (u .vl) (u .level) (u .access) g x q → s ≡ stateAt u f x p
+state-made u f g x p q s hg hq h = h ∙ ap₂ (λ (k : Flags) (r : List Predicate). made (u .vl) (u .level) (u .access) k x r) hg hq

@@ -7,7 +7,7 @@ use lib.ListN.{getD, length, length-map}
 use lib.Seq.{set-out, getD-set-same, getD-set-other}
 use Rattle.predicates.specs.declared.Predicate.{Predicate}
 use Rattle.registers.specs.declared.State.{State}
-use Rattle.registers.specs.State.{allFalse, readX, readP, withX, withP}
+use Rattle.registers.specs.State.{allFalse, made, readX, readP, withX, withP}
 
 -- what every state of the code has: 31 general registers and 16 predicates
 pub record Sized (s : State) : Type 0 where
@@ -18,11 +18,11 @@ pub record Sized (s : State) : Type 0 where
 
 pub withX-out : (s : State) (r v : ℕ) → length (s .x) ≤ r → s ≡ withX s r v
 unfolding withX
-withX-out s r v h = ap (λ (l : List ℕ). record { vl = s .vl; level = s .level; access = s .access; flags = s .flags; x = l; p = s .p }) (sym (set-out (s .x) r v h))
+withX-out s r v h = ap (λ (l : List ℕ). made (s .vl) (s .level) (s .access) (s .flags) l (s .p)) (sym (set-out (s .x) r v h))
 
 pub withP-out : (s : State) (r : ℕ) (q : Predicate) → length (s .p) ≤ r → s ≡ withP s r q
 unfolding withP
-withP-out s r q h = ap (λ (l : List Predicate). record { vl = s .vl; level = s .level; access = s .access; flags = s .flags; x = s .x; p = l }) (sym (set-out (s .p) r q h))
+withP-out s r q h = ap (made (s .vl) (s .level) (s .access) (s .flags) (s .x)) (sym (set-out (s .p) r q h))
 
 -- ---- what is read after a write
 

@@ -6,6 +6,7 @@ use lib.ListN.{getD}
 use Rattle.predicates.specs.declared.Flags.{Flags}
 use Rattle.predicates.specs.declared.Predicate.{Predicate}
 use Rattle.registers.specs.declared.State.{State}
+use Rattle.registers.specs.State.{made}
 use Rattle.registers.specs.declared.parts.Settings.{Settings}
 
 -- predicates, each by its four words
@@ -14,12 +15,12 @@ predicatesOf [] = []
 predicatesOf (w ∷ ws) = record { words = w } ∷ predicatesOf ws
 
 -- N, Z, C and V in this order
-abbrev pub flagsAt : List Bool → Flags
-flagsAt f = record { n = getD f 0 false; z = getD f 1 false; c = getD f 2 false; v = getD f 3 false }
+abbrev pub flagsFrom : List Bool → Flags
+flagsFrom f = record { n = getD f 0 false; z = getD f 1 false; c = getD f 2 false; v = getD f 3 false }
 
 -- the state of these settings, flags, X and P registers
 abbrev pub stateAt : Settings → List Bool → List ℕ → List (List ℕ) → State
-stateAt s f x p = record { vl = s .vl; level = s .level; access = s .access; flags = flagsAt f; x = x; p = predicatesOf p }
+stateAt s f x p = made (s .vl) (s .level) (s .access) (flagsFrom f) x (predicatesOf p)
 
 abbrev pub settingsOf : State → Settings
 settingsOf s = record { vl = s .vl; level = s .level; access = s .access }

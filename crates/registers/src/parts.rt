@@ -12,7 +12,7 @@ ghost use Rattle.bits.specs.Search.{some};
 ghost use Rattle.predicates.specs.Predicate.{bitAt, pack, allFalse};
 ghost use Rattle.predicates.specs.PredTest.{flagsOf};
 ghost use Rattle.registers.specs.Legal.{legal};
-ghost use Rattle.registers.specs.Parts.{predicatesOf, flagsAt, stateAt};
+ghost use Rattle.registers.specs.Parts.{predicatesOf, flagsFrom, stateAt};
 
 // What no instruction changes.
 #[repr(C)]
@@ -67,7 +67,7 @@ pub fn put_p(p: &mut [[u64; 4]], r: u64, q: Predicate)
 
 // The flags of a number NZCV, if they are to be set.
 pub fn put_flags(flags: &mut [bool; 4], sets: bool, nzcv: u64)
-    ensures { λ _. ⌜ flagsAt (now (flags .exit)) ≡ pick sets (flagsOf nzcv) (flagsAt (now (flags .entry))) ⌝ }
+    ensures { λ _. ⌜ flagsFrom (now (flags .exit)) ≡ pick sets (flagsOf nzcv) (flagsFrom (now (flags .entry))) ⌝ }
 {
     if sets {
         let written = [
@@ -142,7 +142,7 @@ pub fn bits_of_flags(flags: Flags) -> [bool; 4]
 
 // Flags of N, Z, C and V.
 pub fn flags_of(bits: [bool; 4]) -> Flags
-    ensures { λ r. ⌜ r ≡ flagsAt bits ⌝ }
+    ensures { λ r. ⌜ r ≡ flagsFrom bits ⌝ }
 {
     Flags {
         n: bits[0],

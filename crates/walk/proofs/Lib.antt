@@ -2,12 +2,12 @@
 pub mod Runs
 pub mod Closed
 pub mod Executed
-pub mod Lanes
-pub mod Demands
-pub mod Answered
-pub mod Lengths
 pub mod Outcomes
 pub mod Accepted
-pub mod Examples
+pub mod Lanes
+pub mod Demands
 pub mod Turns
 pub mod Loop
+pub mod Answered
+pub mod Lengths
+pub mod Examples

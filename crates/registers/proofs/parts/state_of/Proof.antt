@@ -1,6 +1,6 @@
 -- `state_of` meets its contract. Assumes nothing.
 use borrow.Author.Needs.{needs}
-use Rattle.registers.proofs.PartLaws.{made}
+use Rattle.registers.proofs.PartLaws.{state-made}
 use Rattle.registers.proofs.parts.state_of.Statement.{statement}
 use Rattle.registers.proofs.parts.state_of.Tie as tie
 
@@ -14,7 +14,7 @@ new-requires : tie.Need-new-requires
 new-requires c κs = search needs
 
 returns : tie.Need-returns
-returns c = search (made, needs) depth 9
+returns c = search (state-made, needs) depth 9
 
 pub state-of-spec : {M : Type 1} → statement M
 state-of-spec = tie.close (tie.spec flags-of-requires predicates-of-requires new-requires returns)
