@@ -1,6 +1,6 @@
 //! What `docs/FORMAT.md` says in tables and hex, held to the library and to an example.
 
-use plokamyr::{encode, read, text, Form, Reply, Row, WORDS_MAX};
+use plokamyr::{encode, read, text, Form, Reply, Row, State, WORDS_MAX};
 use std::fs;
 use std::path::PathBuf;
 
@@ -105,8 +105,11 @@ fn words() {
             let (names, values): (Vec<_>, Vec<_>) =
                 fields.iter().map(|(name, width)| (name.as_str(), if largest { (1 << width) - 1 } else { 0 })).unzip();
             assert_eq!((word.len(), names.as_slice()), (32, form.field_names()));
-            let row = Row::new(*form, &values).expect("the form's own fields");
-            assert_eq!(encode(row), Ok(u32::from_str_radix(&word, 2).expect("bits")), "{form:?}");
+            let word = u32::from_str_radix(&word, 2).expect("bits");
+            assert_eq!(encode(Row::new(*form, &values).expect("the form's own fields")), Ok(word), "{form:?}");
+            let level = row[4].parse().unwrap_or(if largest { 1 } else { 2 }); // WHILE_ONE's, by lt
+            assert_eq!(State::new(128, level).step(word), Reply::Done, "{form:?}");
+            assert_eq!(State::new(128, level - 1).step(word), Reply::LevelTooLow, "{form:?}");
         }
     }
 }
