@@ -52,7 +52,7 @@ impl std::fmt::Display for Flags {
 }
 
 /// The register state. Any value may be handed to the library: one that is not legal gets [`Reply::IllegalState`].
-/// [`State::new`] makes one, so that a field more does not break who uses it.
+/// [`State::new`] makes one, so that a field to come breaks nobody.
 ///
 /// ```
 /// use plokamyr::{Predicate, Reply, State};
@@ -63,6 +63,12 @@ impl std::fmt::Display for Flags {
 /// assert_eq!(state.step(0x25A2_1C20), Reply::Done); // WHILELO p0.s, x1, x2
 /// assert_eq!(state.p[0], Predicate::from(0x0111));
 /// assert_eq!(state.flags.to_string(), "1010");
+/// ```
+///
+/// An expression of its fields does not compile:
+///
+/// ```compile_fail,E0639
+/// let state = plokamyr::State { level: 2, ..plokamyr::State::new(128, 1) };
 /// ```
 #[derive(Clone, Debug, PartialEq, Eq, Hash)]
 #[non_exhaustive]
