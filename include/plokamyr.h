@@ -1,4 +1,5 @@
 /* Plokamyr: the predicate part of an Arm SVE interpreter, for C and C++.
+ * docs/FORMAT.md has images, words, replies and their order in full.
  *
  * Every call is answered: nothing is left to the caller to check but what C cannot say. What the caller owes:
  *   - a pointer with a count is valid for that many elements (null will do where the count is 0), and aligned as its type;
@@ -142,7 +143,8 @@ size_t plokamyr_text(const uint8_t *image, size_t length, uint8_t *text, size_t 
 /* ---- words ---- */
 
 /* An instruction as numbers: its form, then the fields of the form from the highest bit down, then zeros.
- * The counters and the pair ask level 3, WHILE_ONE asks 1 if lt is 1 and else 2, all others ask 1. */
+ * The counters and the pair ask level 3, WHILE_ONE asks 1 if lt is 1 and else 2, all others ask 1.
+ * Later versions may add forms: keep a default. */
 enum plokamyr_form {
     PLOKAMYR_WHILE_ONE = 0,     /* size, Rm, sf, U, lt, Rn, eq, Pd */
     PLOKAMYR_WHILE_PAIR = 1,    /* size, Rm, U, lt, Rn, Pd, eq: writes P(2 Pd) and P(2 Pd + 1) */

@@ -1,5 +1,5 @@
 //! The library's calls, in the second program's types so that answers can be compared as they are.
-//! Rows go past the Rust wrapper, which has no way to say a form that does not exist.
+//! Rows go past the Rust wrapper too, so that what a refusal leaves in row and word is seen.
 
 use compare::routes::Route;
 use model::{Flags, Ran, Reading, Row, State, Walked, Written};
@@ -78,20 +78,19 @@ pub fn encode(row: &Row, word: &mut u32) -> u32 {
     unsafe { plokamyr_encode(row.as_ptr(), word) }
 }
 
+/// A number past the second program's own is one that it never gives.
 fn number(reply: Reply) -> u8 {
-    reply.number() as u8
+    u8::try_from(reply.number()).unwrap_or(u8::MAX)
 }
 
 fn to_library(state: &State) -> plokamyr::State {
     let Flags { n, z, c, v } = state.flags;
-    plokamyr::State {
-        vl: state.vl,
-        level: state.level,
-        access: state.access,
-        flags: plokamyr::Flags { n, z, c, v },
-        x: state.x,
-        p: state.p.map(|words| Predicate { words }),
-    }
+    let mut library = plokamyr::State::new(state.vl, state.level);
+    library.access = state.access;
+    library.flags = plokamyr::Flags { n, z, c, v };
+    library.x = state.x;
+    library.p = state.p.map(|words| Predicate { words });
+    library
 }
 
 fn from_library(state: &plokamyr::State) -> State {

@@ -96,11 +96,11 @@ impl Kind for Words {
     }
 }
 
-/// A row in the wrapper's type; its form is one of the eleven.
+/// A row in the wrapper's type.
 fn wrapped(row: &Row) -> plokamyr::Row {
     let mut fields = [0; 8];
     fields.copy_from_slice(&row[1..]);
-    plokamyr::Row { form: Form::from_number(row[0]).expect("one of the eleven"), fields }
+    plokamyr::Row { form: Form::from_number(row[0]), fields }
 }
 
 /// First every place after the form of every form with all 256 values, the others in range: the fields, and the places
@@ -152,10 +152,8 @@ impl Kind for Rows {
         let second = model::encode(row);
         let mut differences = Differences::default();
         differences.field("reply and word", library, second.map_or((9, WORD_CANARY), |word| (0, word)));
-        if row[0] < 11 {
-            let wrapper = plokamyr::encode(wrapped(row));
-            differences.field("the wrapper's word", wrapper, second.ok_or(Reply::FieldPastRange));
-        }
+        let wrapper = plokamyr::encode(wrapped(row));
+        differences.field("the wrapper's word", wrapper, second.ok_or(Reply::FieldPastRange));
         if let Some(word) = second {
             differences.field("decode of the word", library_decode(word), (0, *row));
             seen.form(row, ANY_LENGTH);

@@ -3,6 +3,7 @@ use crate::{ffi, Reply, State};
 /// What [`walk`] answers: `count` instructions were executed, `visited` positions stand at the front of the list, and
 /// `state` is what they left. For a refusal other than 12: 0, 0 and the given state.
 #[derive(Clone, Debug, PartialEq, Eq)]
+#[non_exhaustive]
 #[must_use]
 pub struct Walked {
     pub reply: Reply,
@@ -28,11 +29,11 @@ pub struct Walked {
 /// assert_eq!((walked.reply, walked.count, walked.visited), (Reply::Done, 3 + 3 + 2, 3));
 /// assert_eq!(list, [10, 11, 12, 0]);
 /// ```
-#[allow(clippy::too_many_arguments)] // as in C and the papers
+#[allow(clippy::too_many_arguments)] // as in C
 pub fn walk(state: &State, size: u32, n: u32, m: u32, d: u32, k: u32, list: &mut [u64], budget: u64) -> Walked {
     let route = ffi::Route { size, n, m, d, k };
     let ffi::Walked { reply, count, visited, state } = ffi::walk(state, route, list, budget);
-    let reply = ffi::reply(reply);
+    let reply = Reply::from_number(reply);
     Walked { reply, count, visited, state }
 }
 
@@ -46,6 +47,7 @@ pub const TEXT_MAX: usize = 86026;
 /// What [`read`] answers: `count` words stand at the front of the list.
 /// For a refusal: 0, and a state of `vl` 128 with all else zero.
 #[derive(Clone, Debug, PartialEq, Eq)]
+#[non_exhaustive]
 #[must_use]
 pub struct Reading {
     pub reply: Reply,
@@ -67,12 +69,13 @@ pub struct Reading {
 /// ```
 pub fn read(image: &[u8], words: &mut [u32]) -> Reading {
     let ffi::Reading { reply, count, state } = ffi::read(image, words);
-    let reply = ffi::reply(reply);
+    let reply = Reply::from_number(reply);
     Reading { reply, count, state }
 }
 
 /// What [`write()`] answers: `length` bytes were written; for a refusal 0.
 #[derive(Clone, Copy, Debug, PartialEq, Eq)]
+#[non_exhaustive]
 #[must_use]
 pub struct Written {
     pub reply: Reply,
@@ -91,7 +94,7 @@ pub struct Written {
 /// ```
 pub fn write(state: &State, words: &[u32], image: &mut [u8]) -> Written {
     let ffi::Written { reply, length } = ffi::write(state, words, image);
-    let reply = ffi::reply(reply);
+    let reply = Reply::from_number(reply);
     Written { reply, length }
 }
 

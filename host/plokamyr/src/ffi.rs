@@ -4,7 +4,7 @@
 //! overlap, bools of 0 or 1. A `bool` of Rust is one, and the library hands back no other.
 
 use crate::{Flags, Predicate, Reply, State};
-use std::mem::{offset_of, size_of};
+use std::mem::{align_of, size_of};
 
 /// A reply as C hands it over: a number, since an enum of Rust must not hold a stranger.
 pub type Number = u32;
@@ -50,23 +50,12 @@ pub struct Route {
     pub k: u32,
 }
 
+// Where the fields lie, the tests below say.
 const _: () = {
     assert!(size_of::<Predicate>() == 32 && size_of::<Flags>() == 4);
-    assert!(offset_of!(Flags, n) == 0 && offset_of!(Flags, z) == 1);
-    assert!(offset_of!(Flags, c) == 2 && offset_of!(Flags, v) == 3);
     assert!(size_of::<State>() == 776 && align_of::<State>() == 8);
-    assert!(offset_of!(State, vl) == 0 && offset_of!(State, level) == 8);
-    assert!(offset_of!(State, access) == 9 && offset_of!(State, flags) == 10);
-    assert!(offset_of!(State, x) == 16 && offset_of!(State, p) == 264);
-    assert!(size_of::<Ran>() == 16 && offset_of!(Ran, reply) == 0);
-    assert!(offset_of!(Ran, refused) == 4 && offset_of!(Ran, done) == 8);
-    assert!(size_of::<Walked>() == 800 && offset_of!(Walked, reply) == 0);
-    assert!(offset_of!(Walked, count) == 8 && offset_of!(Walked, visited) == 16);
-    assert!(offset_of!(Walked, state) == 24);
-    assert!(size_of::<Reading>() == 792 && offset_of!(Reading, reply) == 0);
-    assert!(offset_of!(Reading, count) == 8 && offset_of!(Reading, state) == 16);
-    assert!(size_of::<Written>() == 16 && offset_of!(Written, reply) == 0);
-    assert!(offset_of!(Written, length) == 8);
+    assert!(size_of::<Ran>() == 16 && size_of::<Walked>() == 800);
+    assert!(size_of::<Reading>() == 792 && size_of::<Written>() == 16);
 };
 
 extern "C" {
@@ -108,20 +97,15 @@ extern "C" {
     fn plokamyr_encode(row: *const RawRow, word: *mut u32) -> Number;
 }
 
-/// The reply of a number that the library gave.
-pub fn reply(number: Number) -> Reply {
-    Reply::from_number(number).expect("the library answers one of the thirteen replies")
-}
-
 pub fn step(state: &mut State, word: u32) -> Reply {
     let State { vl, level, access, flags, x, p } = state;
     // SAFETY: the parts are lent for writing and for this call alone, lie apart, and have C's layout.
-    reply(unsafe { plokamyr_step_parts(*vl, *level, *access, flags, x, p, word) })
+    Reply::from_number(unsafe { plokamyr_step_parts(*vl, *level, *access, flags, x, p, word) })
 }
 
 pub fn step_lent(state: &mut State, word: u32) -> Reply {
     // SAFETY: the state is lent for writing and for this call alone, and its layout is C's.
-    reply(unsafe { plokamyr_step_lent(state, word) })
+    Reply::from_number(unsafe { plokamyr_step_lent(state, word) })
 }
 
 pub fn run(state: &mut State, words: &[u32]) -> Ran {
@@ -157,10 +141,44 @@ pub fn text(image: &[u8], text: &mut [u8]) -> usize {
 
 pub fn decode(word: u32, row: &mut RawRow) -> Reply {
     // SAFETY: the row has the nine places that the library writes.
-    reply(unsafe { plokamyr_decode(word, row) })
+    Reply::from_number(unsafe { plokamyr_decode(word, row) })
 }
 
 pub fn encode(row: &RawRow, word: &mut u32) -> Reply {
     // SAFETY: the row has the nine places that the library reads; the word is another local.
-    reply(unsafe { plokamyr_encode(row, word) })
+    Reply::from_number(unsafe { plokamyr_encode(row, word) })
+}
+
+#[cfg(test)]
+mod tests {
+    use super::*;
+
+    /// Where a part lies in a whole, in bytes.
+    fn at<Whole, Part>(whole: &Whole, part: &Part) -> usize {
+        part as *const Part as usize - whole as *const Whole as usize
+    }
+
+    #[test]
+    fn fields_lie_where_c_has_them() {
+        let state = State::new(128, 1);
+        assert_eq!((at(&state, &state.vl), at(&state, &state.level), at(&state, &state.access)), (0, 8, 9));
+        assert_eq!((at(&state, &state.flags), at(&state, &state.x), at(&state, &state.p)), (10, 16, 264));
+        let Flags { n, z, c, v } = &state.flags;
+        assert_eq!([n, z, c, v].map(|flag| at(&state.flags, flag)), [0, 1, 2, 3]);
+    }
+
+    #[test]
+    fn answers_lie_where_c_has_them() {
+        let state = State::new(128, 1);
+        let ran = Ran { reply: 0, refused: 0, done: 0 };
+        assert_eq!((at(&ran, &ran.reply), at(&ran, &ran.refused), at(&ran, &ran.done)), (0, 4, 8));
+        let walked = Walked { reply: 0, count: 0, visited: 0, state: state.clone() };
+        assert_eq!((at(&walked, &walked.reply), at(&walked, &walked.count)), (0, 8));
+        assert_eq!((at(&walked, &walked.visited), at(&walked, &walked.state)), (16, 24));
+        let reading = Reading { reply: 0, count: 0, state };
+        let parts = (at(&reading, &reading.reply), at(&reading, &reading.count), at(&reading, &reading.state));
+        assert_eq!(parts, (0, 8, 16));
+        let written = Written { reply: 0, length: 0 };
+        assert_eq!((at(&written, &written.reply), at(&written, &written.length)), (0, 8));
+    }
 }

@@ -1,44 +1,71 @@
+use std::error::Error;
+use std::fmt;
+
 /// What the library answers: done, or why not. The numbers are those of `include/plokamyr.h`.
+///
+/// A library that is newer than this crate may answer a number that has no name here: it is then [`Reply::Other`].
+/// To look for such a reply, compare [`number`](Reply::number), which stays what it is when a later version names it.
 ///
 /// ```
 /// use plokamyr::Reply;
 ///
-/// assert_eq!(Reply::from_number(4), Some(Reply::IllegalState));
+/// assert_eq!(Reply::from_number(4), Reply::IllegalState);
 /// assert_eq!(Reply::IllegalState.number(), 4);
-/// assert_eq!(Reply::from_number(13), None);
+/// assert_eq!(Reply::from_number(99), Reply::Other(99));
+/// assert_eq!(Reply::ImageCut.to_string(), "image ends before a section does (reply 5)");
+/// ```
+///
+/// A match needs an arm for replies to come:
+///
+/// ```compile_fail,E0004
+/// # use plokamyr::Reply::{self, *};
+/// # fn of_a_step(reply: Reply) -> bool {
+/// match reply {
+///     Done => true,
+///     UnknownWord | LevelTooLow | AccessOff | IllegalState => false,
+///     ImageCut | NotAllowed | TrailingBytes | BufferTooSmall => false,
+///     FieldPastRange | BadWalkRegisters | ListTooShort | BudgetSpent => false,
+///     Other(_) => false,
+/// }
+/// # }
 /// ```
 #[derive(Clone, Copy, Debug, PartialEq, Eq, Hash)]
-#[repr(u8)]
+#[non_exhaustive]
 #[must_use]
 pub enum Reply {
-    Done = 0,
-    /// The word is no instruction of ours.
-    UnknownWord = 1,
-    /// The state's level is below the form's.
-    LevelTooLow = 2,
-    AccessOff = 3,
-    /// `vl` is none of the five, `level` is above 3, or a predicate has a bit at or above `vl / 8`.
-    IllegalState = 4,
-    /// The image ends before a section does.
-    ImageCut = 5,
-    /// A count or a byte of an image is not allowed.
-    NotAllowed = 6,
-    /// The image goes on after its last section.
-    TrailingBytes = 7,
-    BufferTooSmall = 8,
-    /// The instruction to be written has a field past its range.
-    FieldPastRange = 9,
-    /// An X past 31, a P past 15, a size past 3, n = 31, n = m, or d = k.
-    BadWalkRegisters = 10,
-    /// The list has fewer places than there are positions to visit.
-    ListTooShort = 11,
-    /// The walk has not ended. The only refusal that keeps the work done so far.
-    BudgetSpent = 12,
+    /// 0.
+    Done,
+    /// 1: the word is no instruction of ours.
+    UnknownWord,
+    /// 2: the state's level is below the form's.
+    LevelTooLow,
+    /// 3.
+    AccessOff,
+    /// 4: `vl` is none of the five, `level` is above 3, or a predicate has a bit at or above `vl / 8`.
+    IllegalState,
+    /// 5: the image ends before a section does.
+    ImageCut,
+    /// 6: a count or a byte of an image is not allowed.
+    NotAllowed,
+    /// 7: the image goes on after its last section.
+    TrailingBytes,
+    /// 8: the buffer for an image, or the list for its words.
+    BufferTooSmall,
+    /// 9: the instruction to be written has a field past its range.
+    FieldPastRange,
+    /// 10: an X past 31, a P past 15, a size past 3, n = 31, n = m, or d = k.
+    BadWalkRegisters,
+    /// 11: the list has fewer places than there are positions to visit.
+    ListTooShort,
+    /// 12: the walk has not ended. The only refusal that keeps the work done so far.
+    BudgetSpent,
+    /// A number that has no name here. [`Reply::from_number`] gives it for no other.
+    Other(u32),
 }
 
 impl Reply {
-    /// All thirteen, each at the place of its number.
-    pub const ALL: [Reply; 13] = [
+    /// Those that have a name here, each at the place of its number.
+    pub const ALL: &'static [Reply] = &[
         Reply::Done,
         Reply::UnknownWord,
         Reply::LevelTooLow,
@@ -54,13 +81,51 @@ impl Reply {
         Reply::BudgetSpent,
     ];
 
-    /// The reply of a number, if it has one.
-    pub fn from_number(number: u32) -> Option<Reply> {
-        Self::ALL.get(usize::try_from(number).ok()?).copied()
+    /// The reply of a number.
+    pub fn from_number(number: u32) -> Reply {
+        Self::ALL.get(number as usize).copied().unwrap_or(Reply::Other(number))
     }
 
-    /// The number that the papers and C give it.
+    /// The number that C gives it.
     pub fn number(self) -> u32 {
-        self as u32
+        self.number_and_words().0
+    }
+
+    fn number_and_words(self) -> (u32, &'static str) {
+        match self {
+            Reply::Done => (0, "done"),
+            Reply::UnknownWord => (1, "word is no instruction of ours"),
+            Reply::LevelTooLow => (2, "level is below what the instruction asks"),
+            Reply::AccessOff => (3, "access is off"),
+            Reply::IllegalState => (4, "vector length, level or a predicate of the state is not allowed"),
+            Reply::ImageCut => (5, "image ends before a section does"),
+            Reply::NotAllowed => (6, "count or byte of an image is not allowed"),
+            Reply::TrailingBytes => (7, "image goes on after its last section"),
+            Reply::BufferTooSmall => (8, "buffer or list is too small"),
+            Reply::FieldPastRange => (9, "field of an instruction is past its range"),
+            Reply::BadWalkRegisters => (10, "register or size of a walk is not allowed"),
+            Reply::ListTooShort => (11, "list has fewer places than there are positions to visit"),
+            Reply::BudgetSpent => (12, "budget is spent before the walk has ended"),
+            Reply::Other(number) => (number, "reply without a name here"),
+        }
     }
 }
+
+impl fmt::Display for Reply {
+    /// What it says in words, and its number.
+    fn fmt(&self, out: &mut fmt::Formatter) -> fmt::Result {
+        let (number, words) = self.number_and_words();
+        write!(out, "{words} (reply {number})")
+    }
+}
+
+/// A refusal is an error; [`Reply::Done`] never stands in an `Err` of this crate.
+///
+/// ```
+/// fn first_field(word: u32) -> Result<u8, Box<dyn std::error::Error>> {
+///     let row = plokamyr::decode(word)?;
+///     Ok(row.fields[0])
+/// }
+/// assert_eq!(first_field(0).unwrap_err().to_string(), "word is no instruction of ours (reply 1)");
+/// ```
+impl Error for Reply {}

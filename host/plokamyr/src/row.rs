@@ -1,37 +1,62 @@
 use crate::{ffi, Reply};
 
-/// The forms of instruction.
+/// The forms of instruction. The numbers are those of `include/plokamyr.h`.
+///
+/// A library that is newer than this crate may have more: [`decode`] then answers [`Form::Other`] with the fields as they
+/// are, and [`encode`] takes such a row back. To look for such a form, compare [`number`](Form::number).
 ///
 /// ```
 /// use plokamyr::Form;
 ///
 /// assert_eq!(Form::Pnext.field_names(), ["size", "Pv", "Pdn"]);
-/// assert_eq!(Form::from_number(7), Some(Form::Pnext));
-/// assert_eq!(Form::from_number(11), None);
+/// assert_eq!(Form::from_number(7), Form::Pnext);
+/// assert_eq!(Form::from_number(99), Form::Other(99));
+/// ```
+///
+/// A match needs an arm for forms to come:
+///
+/// ```compile_fail,E0004
+/// # use plokamyr::Form::{self, *};
+/// # fn writes_x(form: Form) -> bool {
+/// match form {
+///     Saturating | IncDec | Cntp | CntpCounter => true,
+///     WhileOne | WhilePair | WhileCounter | Pnext | Pfirst | Ptest | Pfalse => false,
+///     Other(_) => false,
+/// }
+/// # }
 /// ```
 #[derive(Clone, Copy, Debug, PartialEq, Eq, Hash)]
-#[repr(u8)]
+#[non_exhaustive]
 pub enum Form {
-    WhileOne = 0,
-    /// Writes P(2 Pd) and P(2 Pd + 1).
-    WhilePair = 1,
-    /// Writes P(8 + PNd).
-    WhileCounter = 2,
-    /// SQ or UQ, INCP or DECP.
-    Saturating = 3,
-    /// INCP or DECP.
-    IncDec = 4,
-    Cntp = 5,
-    CntpCounter = 6,
-    Pnext = 7,
-    Pfirst = 8,
-    Ptest = 9,
-    Pfalse = 10,
+    /// 0.
+    WhileOne,
+    /// 1: writes P(2 Pd) and P(2 Pd + 1).
+    WhilePair,
+    /// 2: writes P(8 + PNd).
+    WhileCounter,
+    /// 3: SQ or UQ, INCP or DECP.
+    Saturating,
+    /// 4: INCP or DECP.
+    IncDec,
+    /// 5.
+    Cntp,
+    /// 6.
+    CntpCounter,
+    /// 7.
+    Pnext,
+    /// 8.
+    Pfirst,
+    /// 9.
+    Ptest,
+    /// 10.
+    Pfalse,
+    /// A number that has no name here. [`Form::from_number`] gives it for no other.
+    Other(u8),
 }
 
 impl Form {
-    /// All eleven, each at the place of its number.
-    pub const ALL: [Form; 11] = [
+    /// Those that have a name here, each at the place of its number.
+    pub const ALL: &'static [Form] = &[
         Form::WhileOne,
         Form::WhilePair,
         Form::WhileCounter,
@@ -45,30 +70,35 @@ impl Form {
         Form::Pfalse,
     ];
 
-    /// The form of a number, if it has one.
-    pub fn from_number(number: u8) -> Option<Form> {
-        Self::ALL.get(usize::from(number)).copied()
+    /// The form of a number.
+    pub fn from_number(number: u8) -> Form {
+        Self::ALL.get(usize::from(number)).copied().unwrap_or(Form::Other(number))
     }
 
     /// The number that C gives it.
     pub fn number(self) -> u8 {
-        self as u8
+        self.number_and_fields().0
     }
 
-    /// The names of its fields, from the highest bit of the word down.
+    /// The names of its fields, from the highest bit of the word down. None are known of [`Form::Other`].
     pub fn field_names(self) -> &'static [&'static str] {
+        self.number_and_fields().1
+    }
+
+    fn number_and_fields(self) -> (u8, &'static [&'static str]) {
         match self {
-            Form::WhileOne => &["size", "Rm", "sf", "U", "lt", "Rn", "eq", "Pd"],
-            Form::WhilePair => &["size", "Rm", "U", "lt", "Rn", "Pd", "eq"],
-            Form::WhileCounter => &["size", "Rm", "vl", "U", "lt", "Rn", "eq", "PNd"],
-            Form::Saturating => &["size", "D", "U", "sf", "Pm", "Rdn"],
-            Form::IncDec => &["size", "D", "Pm", "Rdn"],
-            Form::Cntp => &["size", "Pg", "Pn", "Rd"],
-            Form::CntpCounter => &["size", "vl", "PNn", "Rd"],
-            Form::Pnext => &["size", "Pv", "Pdn"],
-            Form::Pfirst => &["Pg", "Pdn"],
-            Form::Ptest => &["Pg", "Pn"],
-            Form::Pfalse => &["Pd"],
+            Form::WhileOne => (0, &["size", "Rm", "sf", "U", "lt", "Rn", "eq", "Pd"]),
+            Form::WhilePair => (1, &["size", "Rm", "U", "lt", "Rn", "Pd", "eq"]),
+            Form::WhileCounter => (2, &["size", "Rm", "vl", "U", "lt", "Rn", "eq", "PNd"]),
+            Form::Saturating => (3, &["size", "D", "U", "sf", "Pm", "Rdn"]),
+            Form::IncDec => (4, &["size", "D", "Pm", "Rdn"]),
+            Form::Cntp => (5, &["size", "Pg", "Pn", "Rd"]),
+            Form::CntpCounter => (6, &["size", "vl", "PNn", "Rd"]),
+            Form::Pnext => (7, &["size", "Pv", "Pdn"]),
+            Form::Pfirst => (8, &["Pg", "Pdn"]),
+            Form::Ptest => (9, &["Pg", "Pn"]),
+            Form::Pfalse => (10, &["Pd"]),
+            Form::Other(number) => (number, &[]),
         }
     }
 }
@@ -89,9 +119,9 @@ pub struct Row {
 }
 
 impl Row {
-    /// A row of the form's own fields; none if there are more or fewer of them than it has.
+    /// A row of the form's own fields; none if there are more or fewer of them than it has, or for [`Form::Other`].
     pub fn new(form: Form, fields: &[u8]) -> Option<Row> {
-        if fields.len() != form.field_names().len() {
+        if matches!(form, Form::Other(_)) || fields.len() != form.field_names().len() {
             return None;
         }
         let mut row = Row { form, fields: [0; 8] };
@@ -117,7 +147,8 @@ pub fn decode(word: u32) -> Result<Row, Reply> {
     }
 }
 
-/// Writes an instruction as a word. Refusal: 9, for a field past its range or one other than 0 after the form's own.
+/// Writes an instruction as a word. Refusal: 9, for a form that the library does not have, a field past its range, or one
+/// other than 0 after the form's own.
 ///
 /// ```
 /// use plokamyr::{encode, Form, Reply, Row};
@@ -136,12 +167,26 @@ pub fn encode(row: Row) -> Result<u32, Reply> {
 
 fn row_of(raw: ffi::RawRow) -> Row {
     let [number, fields @ ..] = raw;
-    let form = Form::from_number(number).expect("the library answers one of the eleven forms");
-    Row { form, fields }
+    Row { form: Form::from_number(number), fields }
 }
 
 fn raw_of(row: Row) -> ffi::RawRow {
     let mut raw = [row.form.number(); 9];
     raw[1..].copy_from_slice(&row.fields);
     raw
+}
+
+#[cfg(test)]
+mod tests {
+    use super::*;
+
+    #[test]
+    fn a_form_without_a_name_keeps_its_number_and_fields() {
+        for number in [11, 12, 255] {
+            let raw = [number, 1, 2, 3, 4, 5, 6, 7, 8];
+            let row = row_of(raw);
+            assert_eq!(row, Row { form: Form::Other(number), fields: [1, 2, 3, 4, 5, 6, 7, 8] });
+            assert_eq!(raw_of(row), raw);
+        }
+    }
 }

@@ -17,7 +17,7 @@ pub struct Predicate {
 impl Predicate {
     /// Bit `b`, false from 256 on.
     pub fn bit(&self, b: usize) -> bool {
-        self.words.get(b / 64).is_some_and(|word| word >> (b % 64) & 1 == 1)
+        self.words.get(b / 64).map_or(false, |word| word >> (b % 64) & 1 == 1)
     }
 }
 
@@ -52,6 +52,7 @@ impl std::fmt::Display for Flags {
 }
 
 /// The register state. Any value may be handed to the library: one that is not legal gets [`Reply::IllegalState`].
+/// [`State::new`] makes one, so that a field to come breaks nobody.
 ///
 /// ```
 /// use plokamyr::{Predicate, Reply, State};
@@ -63,7 +64,14 @@ impl std::fmt::Display for Flags {
 /// assert_eq!(state.p[0], Predicate::from(0x0111));
 /// assert_eq!(state.flags.to_string(), "1010");
 /// ```
+///
+/// An expression of its fields does not compile:
+///
+/// ```compile_fail,E0639
+/// let state = plokamyr::State { level: 2, ..plokamyr::State::new(128, 1) };
+/// ```
 #[derive(Clone, Debug, PartialEq, Eq, Hash)]
+#[non_exhaustive]
 #[repr(C)]
 pub struct State {
     /// The vector length in bits: 128, 256, 512, 1024 or 2048.
@@ -105,7 +113,7 @@ impl State {
     }
 
     /// The same as [`step`](State::step), by way of a step that hands the state in and back.
-    /// It copies the state, and is slower: it is there because the papers name it.
+    /// It copies the state, and is slower; the two are proved to have one meaning.
     ///
     /// ```
     /// let mut state = plokamyr::State::new(128, 1);
@@ -119,21 +127,22 @@ impl State {
     /// Refusal, which leaves the state as it was: 4, even if there are no words. The faster way for more than one word.
     ///
     /// ```
-    /// use plokamyr::{Ran, Reply, State};
+    /// use plokamyr::{Reply, State};
     ///
     /// let mut state = State::new(128, 1);
     /// let ran = state.run(&[0x25A2_1C20, 0x2519_C401, 0]);
-    /// assert_eq!(ran, Ran { reply: Reply::Done, refused: Reply::UnknownWord, done: 2 });
+    /// assert_eq!((ran.reply, ran.refused, ran.done), (Reply::Done, Reply::UnknownWord, 2));
     /// ```
     pub fn run(&mut self, words: &[u32]) -> Ran {
         let ffi::Ran { reply, refused, done } = ffi::run(self, words);
-        Ran { reply: ffi::reply(reply), refused: ffi::reply(refused), done }
+        Ran { reply: Reply::from_number(reply), refused: Reply::from_number(refused), done }
     }
 }
 
 /// What [`State::run`] answers: `done` words were executed; `refused` is the reply to the word after them, or done if
 /// there is none. If the run itself is refused, which `reply` says: done and 0.
 #[derive(Clone, Copy, Debug, PartialEq, Eq)]
+#[non_exhaustive]
 #[must_use]
 pub struct Ran {
     pub reply: Reply,

@@ -16,7 +16,7 @@ fn header() -> String {
 /// The names of an enum of the header, each of which must have its place as its number.
 fn names(header: &str, name: &str) -> Vec<String> {
     let start = header.find(&format!("enum {name} {{")).expect("the header has the enum");
-    let body = header[start..].split(['{', '}']).nth(1).expect("the enum has a body");
+    let body = header[start..].split(&['{', '}'][..]).nth(1).expect("the enum has a body");
     let entries = body.lines().filter_map(|line| line.split_once(" = "));
     let entries = entries.enumerate().map(|(place, (name, rest))| {
         let number = rest.split(|c: char| !c.is_ascii_digit()).next();
@@ -34,21 +34,21 @@ fn constant(header: &str, name: &str) -> usize {
 
 #[test]
 fn replies() {
-    let ours = Reply::ALL.map(|reply| format!("{reply:?}").to_lowercase());
+    let ours: Vec<_> = Reply::ALL.iter().map(|reply| format!("{reply:?}").to_lowercase()).collect();
     assert_eq!(names(&header(), "plokamyr_reply"), ours);
-    for (place, reply) in Reply::ALL.into_iter().enumerate() {
+    for (place, reply) in Reply::ALL.iter().enumerate() {
         assert_eq!(reply.number() as usize, place);
-        assert_eq!(Reply::from_number(reply.number()), Some(reply));
+        assert_eq!(Reply::from_number(reply.number()), *reply);
     }
 }
 
 #[test]
 fn forms() {
-    let ours = Form::ALL.map(|form| format!("{form:?}").to_lowercase());
+    let ours: Vec<_> = Form::ALL.iter().map(|form| format!("{form:?}").to_lowercase()).collect();
     assert_eq!(names(&header(), "plokamyr_form"), ours);
-    for (place, form) in Form::ALL.into_iter().enumerate() {
+    for (place, form) in Form::ALL.iter().enumerate() {
         assert_eq!(usize::from(form.number()), place);
-        assert_eq!(Form::from_number(form.number()), Some(form));
+        assert_eq!(Form::from_number(form.number()), *form);
     }
 }
 

@@ -1,6 +1,8 @@
 //! Each of the thirteen replies, through the wrapper, with what it leaves as it was.
 
 use plokamyr::{decode, encode, read, text, text_in, walk, write, Form, Predicate, Ran, Reply, Row, State};
+use std::collections::HashSet;
+use std::error::Error;
 
 const PFALSE: u32 = 0x2518_E400;
 
@@ -9,6 +11,12 @@ fn state() -> State {
     state.x[1] = 10;
     state.x[2] = 13;
     state.p[5] = Predicate::from(0x00A5);
+    state
+}
+
+fn changed(change: impl FnOnce(&mut State)) -> State {
+    let mut state = state();
+    change(&mut state);
     state
 }
 
@@ -21,22 +29,25 @@ fn expect_refused(state: &State, word: u32, reply: Reply) {
     assert_eq!(&stepped, state);
 }
 
+fn parts(ran: Ran) -> (Reply, Reply, usize) {
+    (ran.reply, ran.refused, ran.done)
+}
+
 /// A run that executes none of its words leaves the state.
 fn expect_no_run(state: &State, words: &[u32], reply: Reply, refused: Reply) {
     let mut ran = state.clone();
-    assert_eq!(ran.run(words), Ran { reply, refused, done: 0 });
+    assert_eq!(parts(ran.run(words)), (reply, refused, 0));
     assert_eq!(&ran, state);
 }
 
 #[test]
 fn steps() {
     expect_refused(&state(), 0, Reply::UnknownWord);
-    expect_refused(&State { level: 0, ..state() }, PFALSE, Reply::LevelTooLow);
-    expect_refused(&State { access: false, ..state() }, PFALSE, Reply::AccessOff);
-    expect_refused(&State { vl: 384, ..state() }, PFALSE, Reply::IllegalState);
-    expect_refused(&State { level: 4, ..state() }, PFALSE, Reply::IllegalState);
-    let mut past = state();
-    past.p[15] = Predicate::from(0x1_0000);
+    expect_refused(&changed(|state| state.level = 0), PFALSE, Reply::LevelTooLow);
+    expect_refused(&changed(|state| state.access = false), PFALSE, Reply::AccessOff);
+    expect_refused(&changed(|state| state.vl = 384), PFALSE, Reply::IllegalState);
+    expect_refused(&changed(|state| state.level = 4), PFALSE, Reply::IllegalState);
+    let past = changed(|state| state.p[15] = Predicate::from(0x1_0000));
     expect_refused(&past, PFALSE, Reply::IllegalState);
 }
 
@@ -44,11 +55,11 @@ fn steps() {
 fn runs() {
     expect_no_run(&state(), &[], Reply::Done, Reply::Done);
     expect_no_run(&state(), &[0, PFALSE], Reply::Done, Reply::UnknownWord);
-    expect_no_run(&State { level: 0, ..state() }, &[PFALSE], Reply::Done, Reply::LevelTooLow);
-    expect_no_run(&State { access: false, ..state() }, &[PFALSE], Reply::Done, Reply::AccessOff);
+    expect_no_run(&changed(|state| state.level = 0), &[PFALSE], Reply::Done, Reply::LevelTooLow);
+    expect_no_run(&changed(|state| state.access = false), &[PFALSE], Reply::Done, Reply::AccessOff);
     for words in [&[][..], &[PFALSE], &[0]] {
-        expect_no_run(&State { vl: 384, ..state() }, words, Reply::IllegalState, Reply::Done);
-        expect_no_run(&State { level: 4, ..state() }, words, Reply::IllegalState, Reply::Done);
+        expect_no_run(&changed(|state| state.vl = 384), words, Reply::IllegalState, Reply::Done);
+        expect_no_run(&changed(|state| state.level = 4), words, Reply::IllegalState, Reply::Done);
     }
 }
 
@@ -56,7 +67,7 @@ fn runs() {
 fn a_refused_word_keeps_those_before_it() {
     let words = [0x25A2_1C20, PFALSE + 5, 0, PFALSE];
     let (mut ran, mut stepped, mut lent) = (state(), state(), state());
-    assert_eq!(ran.run(&words), Ran { reply: Reply::Done, refused: Reply::UnknownWord, done: 2 });
+    assert_eq!(parts(ran.run(&words)), (Reply::Done, Reply::UnknownWord, 2));
     assert!(words[..2].iter().all(|&word| stepped.step(word) == Reply::Done));
     assert!(words[..2].iter().all(|&word| lent.step_lent(word) == Reply::Done));
     assert_eq!((ran.p[0], ran.p[5]), (Predicate::from(0x0111), Predicate::default()));
@@ -103,7 +114,8 @@ fn images() {
     let expect = |bytes: &[u8], places: usize, reply: Reply| {
         let mut words = vec![7; places];
         let reading = read(bytes, &mut words);
-        let nothing = State { access: false, ..State::new(128, 0) };
+        let mut nothing = State::new(128, 0);
+        nothing.access = false;
         assert_eq!((reading.reply, reading.count, reading.state), (reply, 0, nothing));
         assert!(words.iter().all(|word| *word == 7));
     };
@@ -122,7 +134,7 @@ fn writes() {
         assert_eq!((written.reply, written.length), (reply, 0));
         assert!(image.iter().all(|byte| *byte == 7));
     };
-    expect(&State { vl: 0, ..state() }, 5000, 0, Reply::IllegalState);
+    expect(&changed(|state| state.vl = 0), 5000, 0, Reply::IllegalState);
     expect(&state(), 4097, 0, Reply::NotAllowed);
     expect(&state(), 0, 306, Reply::BufferTooSmall);
     expect(&state(), 0, 0, Reply::BufferTooSmall);
@@ -147,4 +159,48 @@ fn words() {
     assert_eq!(encode(past), Err(Reply::FieldPastRange));
     let more = Row { form: Form::Pfalse, fields: [0, 0, 0, 0, 0, 0, 0, 1] };
     assert_eq!(encode(more), Err(Reply::FieldPastRange));
+}
+
+#[test]
+fn a_form_without_a_name() {
+    for number in [11, 12, 255] {
+        let form = Form::from_number(number);
+        assert_eq!((form, form.number()), (Form::Other(number), number));
+        assert!(form.field_names().is_empty() && Row::new(form, &[]).is_none());
+        assert_eq!(encode(Row { form, fields: [0; 8] }), Err(Reply::FieldPastRange));
+    }
+}
+
+#[test]
+fn a_reply_without_a_name() {
+    for number in [13, 17, 256, u32::MAX] {
+        let reply = Reply::from_number(number);
+        assert_eq!((reply, reply.number()), (Reply::Other(number), number));
+        assert_eq!(reply.to_string(), format!("reply without a name here (reply {number})"));
+    }
+}
+
+#[test]
+fn each_reply_has_words_of_its_own() {
+    let mut seen = HashSet::new();
+    for reply in Reply::ALL {
+        let text = reply.to_string();
+        let words = text.strip_suffix(&format!(" (reply {})", reply.number())).expect("the number stands last");
+        assert!(words.starts_with(|c: char| c.is_ascii_lowercase()) && seen.insert(words.to_owned()), "{text}");
+    }
+}
+
+fn next_word(word: u32) -> Result<u32, Box<dyn Error>> {
+    let mut row = decode(word)?;
+    row.fields[0] += 1;
+    Ok(encode(row)?)
+}
+
+#[test]
+fn a_refusal_is_an_error() {
+    assert_eq!(next_word(PFALSE).unwrap(), PFALSE + 1);
+    let unknown = next_word(0).unwrap_err();
+    assert_eq!(unknown.to_string(), "word is no instruction of ours (reply 1)");
+    let past = next_word(PFALSE + 15).unwrap_err();
+    assert_eq!(past.downcast_ref(), Some(&Reply::FieldPastRange));
 }
