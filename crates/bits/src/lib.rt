@@ -1,4 +1,5 @@
-// Numbers seen as bits: masks, and counts of a word's bits.
+// Numbers seen as bits: masks of a word, counts of its bits, and the four element sizes.
+// Every function is total and answers a number that its definition in specs/ gives; a count of ones is the processor's own operation.
 ghost use mathlib.Core.Path.{_≡_};
 ghost use Prim.Native.Nat.{_-_, min};
 ghost use Rattle.bits.specs.Bits.{testBit, number, below, elementBit};

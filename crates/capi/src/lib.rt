@@ -1,4 +1,4 @@
-// The library as C calls it: include/plokamyr.h declares these functions. Replies are the paper's numbers.
+// The library as C calls it: include/plokamyr.h declares these functions, and says of each what it answers, in which order it refuses and what it leaves. Replies are numbers.
 ghost use mathlib.Core.Path.{_≡_};
 ghost use lib.ListN.{length};
 ghost use Rattle.replies.specs.declared.Reply.the-variants.{Done};

@@ -1,4 +1,7 @@
 // The image: a register state and words as bytes, read and written.
+// The reader answers the first section at fault: its count cut 5, its count wrong 6, its content cut 5, its content wrong 6; then 7 for bytes after the last section, then 8 for a lent list that
+// is too short. The writer refuses 4, then 6 for more than 4,096 words, then 8 for a buffer that is too small. A refusal touches neither list nor buffer, and places past what is written stay.
+// Reading what was written gives that state and those words; writing what was read gives the same bytes.
 ghost use mathlib.Core.Path.{_≡_};
 ghost use lib.ListN.{length};
 ghost use Rattle.image.specs.Reading.{readOf, listAfter};

@@ -1,4 +1,4 @@
-// One step over a lent state, with the meaning of the step by value.
+// One step over a lent state, changed where it stands, with the meaning and the refusals of the step by value; a refusal leaves the state as it was.
 ghost use mathlib.Core.Path.{_≡_};
 ghost use Rattle.machine.specs.Step.{stepOf};
 use machine::Machine;

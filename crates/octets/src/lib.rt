@@ -1,4 +1,5 @@
 // The bytes of a slice, whatever its length: one of them, the first, what is left, and numbers, lowest byte first.
+// A byte past the end reads as 0; nothing is asked of the caller.
 ghost use mathlib.Core.Path.{_≡_};
 ghost use Prim.Native.Nat.{_≤_, _<_, min};
 ghost use lib.ListN.{length, take, drop, getD};

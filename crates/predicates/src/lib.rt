@@ -1,4 +1,6 @@
 // Predicates of up to 256 bits, in four words, and what their elements say.
+// Element e of a size is true exactly if its lowest bit is 1; its other bits are ignored when read and zero when an element is written.
+// What lies past a vector's elements is masked away, so no function asks for a legal predicate. Flags are answered as the number NZCV.
 ghost use mathlib.Core.Path.{_≡_};
 ghost use mathlib.Core.Bool.{false, not, _&&_, _||_};
 ghost use Prim.Native.Nat.{_+_, _-_, _*_, _/_, _^_, _%_, min};

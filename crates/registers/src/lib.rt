@@ -1,4 +1,6 @@
-// The register state: reads and writes by value, and which of its values are legal.
+// The register state: reads and writes, and which of its values are legal.
+// X31, and any number past the last register, reads as zero or all false, and a write to it vanishes. A state is legal unless its vector length is none of the five, its level is above 3,
+// or a predicate has a bit at or above VL/8: reply 4 refuses it. State's methods take the state by value and return it; `parts` has the same over registers lent one by one.
 ghost use mathlib.Core.Path.{_≡_};
 ghost use Rattle.bits.specs.Search.{some};
 ghost use Rattle.predicates.specs.Predicate.{bitAt, pack};

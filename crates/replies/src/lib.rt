@@ -1,4 +1,5 @@
-// The replies: what a request is answered with, and the paper's number of each.
+// The replies: what a request is answered with, and the number of each, 0 to 12. 0 is done; every other refuses the request, and all but 12 then leave
+// the state and lent memory as they were.
 ghost use mathlib.Core.Path.{_≡_};
 ghost use Rattle.replies.specs.Reply.{numberOf, isDone};
 

@@ -1,4 +1,6 @@
 // What instructions do with general registers: WHILE's comparisons, and saturating sums.
+// An operand of a WHILE steps by one and wraps at its own width, 64 bits or 32; `held` tells how many comparisons hold before the first that fails.
+// A saturating sum stops at the ends of its own range, signed or unsigned, and is extended to 64 bits.
 ghost use mathlib.Core.Path.{_≡_};
 ghost use mathlib.Core.Bool.{true, false};
 ghost use Prim.Native.Nat.{_+_, _%_, _≤_};

@@ -1,4 +1,5 @@
 // The program's work: from an image's bytes to the lines that it writes.
+// A line for each word stepped, up to the first that is refused, and one that counts those done; for a refused image one line with the reply. A line that does not fit is left out whole.
 ghost use mathlib.Core.Path.{_≡_};
 ghost use Prim.Native.Nat.{_≤_};
 ghost use lib.ListN.{length};

@@ -1,4 +1,6 @@
-// The walk: WHILELO, PNEXT through its lanes, INCP, repeated.
+// The walk: PFALSE Pk, then WHILELO Pd from Xn to Xm, PNEXT Pk through Pd, INCP Xn by Pd, repeated until no lane is left. Each instruction acts as a step executes it.
+// It refuses in this order: 4, 10, 2 (level 0), 3, 11; these change nothing. It is done exactly when the budget is at least D + 3R + 2; with less it answers 12, with the state after exactly
+// budget instructions and the positions written by then. Positions are written from the list's first place on; every other place stays.
 ghost use mathlib.Core.Path.{_≡_};
 ghost use lib.ListN.{length};
 ghost use Rattle.bits.specs.Choice.{pick};
