@@ -3,3 +3,4 @@ pub mod Effects
 pub mod WhileLaws
 pub mod CounterLaws
 pub mod SearchLaws
+pub mod LogicLaws

@@ -7,13 +7,14 @@ use Rattle.scalars.specs.declared.Condition.{Condition}
 use Rattle.words.specs.declared.Target.{Target}
 use Rattle.words.specs.declared.Target.the-variants.{One, Pair, Counter}
 use Rattle.words.specs.declared.Instruction.{Instruction}
-use Rattle.words.specs.declared.Instruction.the-variants.{While, Saturating, IncDec, Cntp, CntpCounter, Pnext, Pfirst, Ptest, Pfalse}
+use Rattle.words.specs.declared.Instruction.the-variants.{While, Saturating, IncDec, Cntp, CntpCounter, Pnext, Pfirst, Ptest, Pfalse, Logic}
 use Rattle.instructions.specs.declared.operands.Values.{Values}
 use Rattle.instructions.specs.Effect.{Effect, givesP}
 use Rattle.instructions.specs.Whiles.{whileOneOf, whilePairOf}
 use Rattle.instructions.specs.Counter.{whileCounterOf, cntpCounterOf}
 use Rattle.instructions.specs.Counts.{incDecOf, saturatingOf, cntpOf}
 use Rattle.instructions.specs.Searches.{pnextOf, pfirstOf, ptestOf}
+use Rattle.instructions.specs.Logic.{logicOf}
 
 abbrev pub whileOf : Condition → Bool → Target → Size → ℕ → ℕ → ℕ → Effect
 whileOf c u (One sf pd) size rn rm vl = whileOneOf c u sf size rn rm vl
@@ -30,3 +31,4 @@ computeOf (Pnext size pv pdn) v vl = pnextOf size (v .pg) (v .pn) vl
 computeOf (Pfirst pg pdn) v vl = pfirstOf (v .pg) (v .pn) vl
 computeOf (Ptest pg pn) v vl = ptestOf (v .pg) (v .pn) vl
 computeOf (Pfalse pd) v vl = givesP allFalse
+computeOf (Logic o s pm pg pn pd) v vl = logicOf o s (v .pg) (v .pn) (v .pm) vl

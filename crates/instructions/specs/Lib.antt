@@ -4,4 +4,5 @@ pub mod Whiles
 pub mod Counter
 pub mod Counts
 pub mod Searches
+pub mod Logic
 pub mod Instructions

@@ -4,7 +4,7 @@ use mathlib.Core.Bool.{true, false}
 use Rattle.words.specs.declared.Target.{Target}
 use Rattle.words.specs.declared.Target.the-variants.{One, Pair, Counter}
 use Rattle.words.specs.declared.Instruction.{Instruction}
-use Rattle.words.specs.declared.Instruction.the-variants.{While, Saturating, IncDec, Cntp, CntpCounter, Pnext, Pfirst, Ptest, Pfalse}
+use Rattle.words.specs.declared.Instruction.the-variants.{While, Saturating, IncDec, Cntp, CntpCounter, Pnext, Pfirst, Ptest, Pfalse, Logic}
 use Rattle.instructions.specs.declared.operands.Registers.{Registers}
 
 -- no register: a number past all of them, which reads as zero or all false, and where a write vanishes
@@ -34,3 +34,4 @@ registersOf (Pnext size pv pdn) = record { rn = none; rm = none; pg = pv; pn = p
 registersOf (Pfirst pg pdn) = record { rn = none; rm = none; pg = pg; pn = pdn; pm = none; rd = none; pd = pdn; pd2 = none; flags = true }
 registersOf (Ptest pg pn) = record { rn = none; rm = none; pg = pg; pn = pn; pm = none; rd = none; pd = none; pd2 = none; flags = true }
 registersOf (Pfalse pd) = record { rn = none; rm = none; pg = none; pn = none; pm = none; rd = none; pd = pd; pd2 = none; flags = false }
+registersOf (Logic o s pm pg pn pd) = record { rn = none; rm = none; pg = pg; pn = pn; pm = pm; rd = none; pd = pd; pd2 = none; flags = s }

@@ -7,6 +7,7 @@ ghost use Rattle.instructions.specs.Instructions.{whileOf, computeOf};
 mod counter;
 mod counts;
 mod effect;
+mod logic;
 mod operands;
 mod searches;
 mod whiles;
@@ -54,6 +55,11 @@ pub fn compute(i: Instruction, v: Values, vl: u64) -> Computed
         Instruction::Pfirst { .. } => searches::pfirst(pg, pn, vl),
         Instruction::Ptest { .. } => searches::ptest(pg, pn, vl),
         Instruction::Pfalse { .. } => searches::pfalse(),
+        Instruction::Logic {
+            operation,
+            flags,
+            ..
+        } => logic::logic(operation, flags, pg, pn, pm, vl),
     }
 }
 

@@ -70,8 +70,8 @@ fn counting(rn: u8, pg: u8, pn: u8, pm: u8, rd: u8) -> Registers
 }
 
 // The forms on predicates alone.
-fn masking(pg: u8, pn: u8, pd: u8, flags: bool) -> Registers
-    ensures { λ r. ⌜ r ≡ record { rn = none; rm = none; pg = pg; pn = pn; pm = none; rd = none; pd = pd; pd2 = none; flags = flags } ⌝ }
+fn masking(pg: u8, pn: u8, pm: u8, pd: u8, flags: bool) -> Registers
+    ensures { λ r. ⌜ r ≡ record { rn = none; rm = none; pg = pg; pn = pn; pm = pm; rd = none; pd = pd; pd2 = none; flags = flags } ⌝ }
 {
     let no = NONE as u64;
     Registers {
@@ -79,7 +79,7 @@ fn masking(pg: u8, pn: u8, pd: u8, flags: bool) -> Registers
         rm: no,
         pg: pg as u64,
         pn: pn as u64,
-        pm: no,
+        pm: pm as u64,
         rd: no,
         pd: pd as u64,
         pd2: no,
@@ -122,9 +122,17 @@ pub fn registers_of(i: Instruction) -> Registers
         Instruction::IncDec { pm, rdn, .. } => counting(rdn, NONE, NONE, pm, rdn),
         Instruction::Cntp { pg, pn, rd, .. } => counting(NONE, pg, pn, NONE, rd),
         Instruction::CntpCounter { pnn, rd, .. } => counting(NONE, NONE, pnn, NONE, rd),
-        Instruction::Pnext { pv, pdn, .. } => masking(pv, pdn, pdn, true),
-        Instruction::Pfirst { pg, pdn } => masking(pg, pdn, pdn, true),
-        Instruction::Ptest { pg, pn } => masking(pg, pn, NONE, true),
-        Instruction::Pfalse { pd } => masking(NONE, NONE, pd, false),
+        Instruction::Pnext { pv, pdn, .. } => masking(pv, pdn, NONE, pdn, true),
+        Instruction::Pfirst { pg, pdn } => masking(pg, pdn, NONE, pdn, true),
+        Instruction::Ptest { pg, pn } => masking(pg, pn, NONE, NONE, true),
+        Instruction::Pfalse { pd } => masking(NONE, NONE, NONE, pd, false),
+        Instruction::Logic {
+            flags,
+            pm,
+            pg,
+            pn,
+            pd,
+            ..
+        } => masking(pg, pn, pm, pd, flags),
     }
 }

@@ -28,7 +28,8 @@ use Rattle.registers.proofs.Legality.{legal-has, quads, withX-legal, withP-lega
 use Rattle.registers.proofs.Registers.{Sized}
 use Rattle.scalars.specs.declared.Condition.{Condition}
 use Rattle.words.specs.declared.Instruction.{Instruction}
-use Rattle.words.specs.declared.Instruction.the-variants.{While, Saturating, IncDec, Cntp, CntpCounter, Pnext, Pfirst, Ptest, Pfalse}
+use Rattle.words.specs.declared.Instruction.the-variants.{While, Saturating, IncDec, Cntp, CntpCounter, Pnext, Pfirst, Ptest, Pfalse, Logic}
+use Rattle.words.specs.declared.Operation.{Operation}
 use Rattle.words.specs.declared.Target.{Target}
 use Rattle.words.specs.declared.Target.the-variants.{One, Pair, Counter}
 use Rattle.instructions.specs.declared.operands.Registers.{Registers}
@@ -36,11 +37,13 @@ use Rattle.instructions.specs.Effect.{Effect}
 use Rattle.instructions.specs.Counter.{groupOf, stored, counterOf, whileCounterOf, cntpCounterOf}
 use Rattle.instructions.specs.Counts.{incDecOf, saturatingOf, cntpOf}
 use Rattle.instructions.specs.Searches.{nextElement, nextResult, pnextOf, firstResult, pfirstOf, ptestOf}
+use Rattle.instructions.specs.Logic.{logicResult, logicOf}
 use Rattle.instructions.specs.Instructions.{whileOf, computeOf}
 use Rattle.instructions.specs.Operands.{registersOf}
 use Rattle.instructions.specs.Whiles.{allHeld, whileElement, lowHalf, highHalf, whileOneOf, whilePairOf}
 use Rattle.scalars.specs.While.{upward, comparison, heldOf}
 use Rattle.instructions.proofs.WhileLaws.{held-le}
+use Rattle.instructions.proofs.LogicLaws.{logic-within}
 use Rattle.machine.specs.Execute.{valuesOf, apply, executeOf}
 use Rattle.machine.proofs.Frame.{beside-flags}
 
@@ -135,6 +138,17 @@ module _ (s : State) (ok : legal s ≡ true) (sized : Sized s) where
       go true e = rw e (none-within (predicateLength (s .vl)) _ (λ b l m. ap₂ _||_ (within-none (predicateLength (s .vl)) (readP s r) (read-within r) b l m) (ne-eqb b (firstFrom (active 0 g) 0 (elements (s .vl) Sz.B)) (past-pl b l e))))
       go false e = rw e (read-within r)
 
+  logic-in : (o : Operation) (sets : Bool) (pg n pm : ℕ) → Within (s .vl) (logicOf o sets (readP s pg) (readP s n) (readP s pm) (s .vl))
+  unfolding logicOf
+  logic-in o sets pg n pm = go sets
+    where
+      q : hasBitFrom (predicateLength (s .vl)) (logicResult o (readP s pg) (readP s n) (readP s pm)) ≡ false
+      q = logic-within o (predicateLength (s .vl)) (readP s pg) (readP s n) (readP s pm) (read-within pg) (read-within pm)
+
+      go : (b : Bool) → Within (s .vl) (logicOf o b (readP s pg) (readP s n) (readP s pm) (s .vl))
+      go true = record { pd = q; pd2 = none }
+      go false = record { pd = q; pd2 = none }
+
   pub effect-within : (i : Instruction) → Within (s .vl) (computeOf i (valuesOf s (registersOf i)) (s .vl))
   unfolding computeOf incDecOf saturatingOf cntpOf cntpCounterOf pnextOf pfirstOf ptestOf
   effect-within (While c u t size rn rm) = while-within c u t size (readX s rn) (readX s rm)
@@ -146,6 +160,7 @@ module _ (s : State) (ok : legal s ≡ true) (sized : Sized s) where
   effect-within (Pfirst pg pdn) = record { pd = first-within (readP s pg) pdn; pd2 = none }
   effect-within (Ptest pg pn) = record { pd = none; pd2 = none }
   effect-within (Pfalse pd) = record { pd = none; pd2 = none }
+  effect-within (Logic o sets pm pg pn pd) = logic-in o sets pg pn pm
 
 -- ---- an effect within PL keeps legality
 

@@ -2,7 +2,7 @@
 // Element e of a size is true exactly if its lowest bit is 1; its other bits are ignored when read and zero when an element is written.
 // What lies past a vector's elements is masked away, so no function asks for a legal predicate. Flags are answered as the number NZCV.
 ghost use mathlib.Core.Path.{_≡_};
-ghost use mathlib.Core.Bool.{false, not, _&&_, _||_};
+ghost use mathlib.Core.Bool.{false, not, _&&_, _||_, xor as xorBits};
 ghost use Prim.Native.Nat.{_+_, _-_, _*_, _/_, _^_, _%_, min};
 ghost use lib.Dec.{eqb};
 ghost use Rattle.bits.specs.Bits.{testBit, number};
@@ -93,6 +93,32 @@ impl Predicate {
                 p[1] & (q[1] ^ 0xffff_ffff_ffff_ffff),
                 p[2] & (q[2] ^ 0xffff_ffff_ffff_ffff),
                 p[3] & (q[3] ^ 0xffff_ffff_ffff_ffff),
+            ],
+        }
+    }
+
+    // Bit by bit, exclusive.
+    pub fn xor(self, other: Predicate) -> Predicate
+        ensures { λ r. ⌜ r ≡ pack (λ b. xorBits (bitAt self b) (bitAt other b)) ⌝ }
+    {
+        let p = self.words;
+        let q = other.words;
+        Predicate {
+            words: [p[0] ^ q[0], p[1] ^ q[1], p[2] ^ q[2], p[3] ^ q[3]],
+        }
+    }
+
+    // Each of the 256 bits inverted.
+    pub fn complement(self) -> Predicate
+        ensures { λ r. ⌜ r ≡ pack (λ b. not (bitAt self b)) ⌝ }
+    {
+        let p = self.words;
+        Predicate {
+            words: [
+                p[0] ^ 0xffff_ffff_ffff_ffff,
+                p[1] ^ 0xffff_ffff_ffff_ffff,
+                p[2] ^ 0xffff_ffff_ffff_ffff,
+                p[3] ^ 0xffff_ffff_ffff_ffff,
             ],
         }
     }

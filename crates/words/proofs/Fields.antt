@@ -1,5 +1,5 @@
 -- An instruction and its fields: building undoes taking the fields, and the other way round.
-use Prim.Native.Nat.{ℕ, zero, suc, _<_, _/_, _^_}
+use Prim.Native.Nat.{ℕ, zero, suc, _<_, _/_, _%_, _^_}
 use mathlib.Core.Path.{_≡_, refl, sym, ap, _∙_}
 use mathlib.Core.List.{_∷_}
 use lib.ListN.{length, getD}
@@ -12,14 +12,16 @@ use Rattle.bits.specs.Size.{shift}
 use Rattle.bits.specs.declared.Size.{Size}
 use Rattle.bits.specs.declared.Size.the-variants as Sz
 use Rattle.words.specs.Layout.{slice, cut}
-use Rattle.words.specs.Words.{forms, formAt, numbersOf, flag, sizeOf, conditionOf, eqBit, formOf, fieldsOf, instructionIn, levelOf}
+use Rattle.words.specs.Words.{forms, formAt, numbersOf, flag, sizeOf, conditionOf, eqBit, operationBits, operationOf, operationNumber, formOf, fieldsOf, instructionIn, levelOf}
 use Rattle.scalars.specs.While.{upward}
 use Rattle.scalars.specs.declared.Condition.{Condition}
 use Rattle.scalars.specs.declared.Condition.the-variants.{Less, LessEqual, GreaterEqual, Greater}
 use Rattle.words.specs.declared.Target.{Target}
 use Rattle.words.specs.declared.Target.the-variants.{One, Pair, Counter}
+use Rattle.words.specs.declared.Operation.{Operation}
+use Rattle.words.specs.declared.Operation.the-variants.{And, Bic, Eor, Sel, Orr, Orn, Nor, Nand}
 use Rattle.words.specs.declared.Instruction.{Instruction}
-use Rattle.words.specs.declared.Instruction.the-variants.{While, Saturating, IncDec, Cntp, CntpCounter, Pnext, Pfirst, Ptest, Pfalse}
+use Rattle.words.specs.declared.Instruction.the-variants.{While, Saturating, IncDec, Cntp, CntpCounter, Pnext, Pfirst, Ptest, Pfalse, Logic}
 
 flag-digit : (b : Bool) → flag (digit b) ≡ b
 flag-digit true = refl
@@ -37,7 +39,17 @@ condition-bits LessEqual = refl
 condition-bits GreaterEqual = refl
 condition-bits Greater = refl
 
-ruleset building = (flag-digit, size-shift, condition-bits)
+operation-bits : (o : Operation) → operationOf (operationBits (operationNumber o / 4 % 2) (operationNumber o / 2 % 2) (operationNumber o % 2)) ≡ o
+operation-bits And = refl
+operation-bits Bic = refl
+operation-bits Eor = refl
+operation-bits Sel = refl
+operation-bits Orr = refl
+operation-bits Orn = refl
+operation-bits Nor = refl
+operation-bits Nand = refl
+
+ruleset building = (flag-digit, size-shift, condition-bits, operation-bits)
 
 build-while : (c : Condition) (u : Bool) (t : Target) (s : Size) (rn rm : ℕ) → formOf (While c u t s rn rm) .build (fieldsOf (While c u t s rn rm)) ≡ While c u t s rn rm
 build-while c u (One w pd) s rn rm = simp building
@@ -55,6 +67,7 @@ build-fields (Pnext s pv pdn) = simp building
 build-fields (Pfirst pg pdn) = refl
 build-fields (Ptest pg pn) = refl
 build-fields (Pfalse pd) = refl
+build-fields (Logic o s pm pg pn pd) = simp building
 
 digit-flag : (n : ℕ) → n < 2 → digit (flag n) ≡ n
 digit-flag zero h = refl
@@ -86,7 +99,44 @@ eq-condition true false = refl
 eq-condition false true = refl
 eq-condition false false = refl
 
-ruleset reading-back = (slice-digit, slice-size, lt-condition, eq-condition)
+operation-number : (n : ℕ) → n < 8 → operationNumber (operationOf n) ≡ n
+operation-number zero h = refl
+operation-number (suc zero) h = refl
+operation-number (suc (suc zero)) h = refl
+operation-number (suc (suc (suc zero))) h = refl
+operation-number (suc (suc (suc (suc zero)))) h = refl
+operation-number (suc (suc (suc (suc (suc zero))))) h = refl
+operation-number (suc (suc (suc (suc (suc (suc zero)))))) h = refl
+operation-number (suc (suc (suc (suc (suc (suc (suc zero))))))) h = refl
+operation-number (suc (suc (suc (suc (suc (suc (suc (suc n)))))))) h = absurd (omega arith)
+
+-- the three bits of an operation that was read
+module _ (i j k w : ℕ) where
+  abbrev a : ℕ
+  a = slice i 1 w
+
+  abbrev b : ℕ
+  b = slice j 1 w
+
+  abbrev d : ℕ
+  d = slice k 1 w
+
+  are-bits : (a < 2) × (b < 2) × (d < 2)
+  are-bits = (mod-lt (w / 2 ^ i) (pow-pos 1), mod-lt (w / 2 ^ j) (pow-pos 1), mod-lt (w / 2 ^ k) (pow-pos 1))
+
+  number-read : operationNumber (operationOf (operationBits a b d)) ≡ operationBits a b d
+  number-read = operation-number (operationBits a b d) (omega (arith, are-bits))
+
+  op-read : operationNumber (operationOf (operationBits a b d)) / 4 % 2 ≡ a
+  op-read = omega (arith, number-read, are-bits)
+
+  o2-read : operationNumber (operationOf (operationBits a b d)) / 2 % 2 ≡ b
+  o2-read = omega (arith, number-read, are-bits)
+
+  o3-read : operationNumber (operationOf (operationBits a b d)) % 2 ≡ d
+  o3-read = omega (arith, number-read, are-bits)
+
+ruleset reading-back = (slice-digit, slice-size, lt-condition, eq-condition, op-read, o2-read, o3-read)
 
 -- what each form reads has the form's number, and the word's fields
 pub read-back : (n w : ℕ) → n < length forms → numbersOf (instructionIn (formAt n) w) ≡ n ∷ cut (formAt n .layout) w
@@ -101,7 +151,8 @@ read-back (suc (suc (suc (suc (suc (suc (suc zero))))))) w l = simp reading-back
 read-back (suc (suc (suc (suc (suc (suc (suc (suc zero)))))))) w l = refl
 read-back (suc (suc (suc (suc (suc (suc (suc (suc (suc zero))))))))) w l = refl
 read-back (suc (suc (suc (suc (suc (suc (suc (suc (suc (suc zero)))))))))) w l = refl
-read-back (suc (suc (suc (suc (suc (suc (suc (suc (suc (suc (suc n))))))))))) w l = absurd (omega arith)
+read-back (suc (suc (suc (suc (suc (suc (suc (suc (suc (suc (suc zero))))))))))) w l = simp reading-back
+read-back (suc (suc (suc (suc (suc (suc (suc (suc (suc (suc (suc (suc n)))))))))))) w l = absurd (omega arith)
 
 -- an instruction's form is one of the table
 pub number-lt : (i : Instruction) → getD (numbersOf i) 0 0 < length forms
@@ -116,6 +167,7 @@ number-lt (Pnext s pv pdn) = omega arith
 number-lt (Pfirst pg pdn) = omega arith
 number-lt (Ptest pg pn) = omega arith
 number-lt (Pfalse pd) = omega arith
+number-lt (Logic o s pm pg pn pd) = omega arith
 
 -- the level of an instruction that is known by its form, and of a WHILE that is known by its target
 pub level-as : {i : Instruction} {c : Condition} {u : Bool} {t v : Target} {s : Size} {rn rm n : ℕ} → i ≡ While c u t s rn rm → t ≡ v → n ≡ levelOf (While c u v s rn rm) → n ≡ levelOf i

@@ -3,25 +3,26 @@ use Prim.Native.Nat.{ℕ, zero, suc, _<_, _/_, _^_}
 use mathlib.Core.Path.{_≡_, refl, sym, ap, ap₂, _∙_}
 use mathlib.Core.Bool.{Bool, true, _&&_}
 use mathlib.Core.List.{List, [], _∷_}
+use native.Mathlib.Decide.{ℕ-discrete}
 use native.Mathlib.Nat.{mod-one}
 use native.Mathlib.Omega.{arith}
 use lib.Dec.{ltb, eqb}
 use lib.ListN.{length, getD, drop}
 use borrow.Author.Tests.{ltb-true}
-use Rattle.words.specs.Layout.{Piece, span, slice, matches, cut, fits, place, upTo}
+use Rattle.words.specs.Layout.{Piece, span, slice, matches, cut, fits, place, upTo, Takes, given}
 use Rattle.words.specs.Layout.Piece.{fixed, field}
-use Rattle.words.specs.Words.{forms, formAt, instructionIn, decodeOf}
+use Rattle.words.specs.Words.{flag, operationBits, hasLogic, forms, formAt, instructionIn, decodeOf}
 use Rattle.words.specs.Rows.{padded, rowOf, rowLayout, writtenIn, encodedAs, replyTo, rowAfter, decodedReply, decodedRow, replyWith, wordAfter, encodedReply, encodedWord}
 use Rattle.words.specs.declared.Target.the-variants.{One, Pair, Counter}
 use Rattle.words.specs.declared.Instruction.{Instruction}
-use Rattle.words.specs.declared.Instruction.the-variants.{While, Saturating, IncDec, Cntp, CntpCounter, Pnext, Pfirst, Ptest, Pfalse}
+use Rattle.words.specs.declared.Instruction.the-variants.{While, Saturating, IncDec, Cntp, CntpCounter, Pnext, Pfirst, Ptest, Pfalse, Logic}
 use Rattle.words.specs.declared.Decoded.{Decoded}
 use Rattle.words.specs.declared.Decoded.the-variants as Dec
 use Rattle.words.specs.declared.Encoded.{Encoded}
 use Rattle.words.specs.declared.Encoded.the-variants as Enc
 use Rattle.words.proofs.Codec.{both, and-pair, matches-place, cut-place}
 use Rattle.words.proofs.Placing.{span-upTo, row-formed}
-use Rattle.words.proofs.Table.{all-allowed, finds}
+use Rattle.words.proofs.Table.{others-allowed, finds}
 use Rattle.words.proofs.Fields.{build-fields, read-back}
 use Rattle.words.proofs.RoundTrip.{taken, encode-decode}
 use Rattle.words.proofs.Rows.{row-encoded}
@@ -39,9 +40,19 @@ cut-upTo (suc n) [] w = ap₂ (λ (x : ℕ) (xs : List ℕ). x ∷ xs) (mod-one 
 cut-upTo (suc n) (fixed k v ∷ ps) w = cut-upTo (suc n) ps w
 cut-upTo (suc n) (field k ∷ ps) w = ap₂ (λ (s : ℕ) (xs : List ℕ). slice s k w ∷ xs) (span-upTo n ps) (cut-upTo n ps w)
 
--- whether a form has a word does not ask them: no form asks more than its own fields, today none
+-- a function of fields takes a missing one for a zero
+given-padded : {A : Type 0} (n m : ℕ) (f : Takes n A) (xs : List ℕ) → given n f (padded m xs) ≡ given n f xs
+given-padded zero m f xs = refl
+given-padded (suc n) zero f xs = refl
+given-padded (suc n) (suc m) f [] = given-padded n m (f 0) []
+given-padded (suc n) (suc m) f (x ∷ xs) = given-padded n m (f x) xs
+
+-- so zeros after the fields do not change whether a form has a word
 padded-allowed : (n : ℕ) (xs : List ℕ) → formAt n .allowed (padded 8 xs) ≡ formAt n .allowed xs
-padded-allowed n xs = sym (all-allowed n (padded 8 xs)) ∙ all-allowed n xs
+padded-allowed n xs = elim (ℕ-discrete n 11) [
+  | yes e ↦ ap (λ (k : ℕ). formAt k .allowed (padded 8 xs)) e ∙ given-padded 8 8 (λ op s pm pg o2 pn o3 pd. hasLogic (operationBits op o2 o3) (flag s)) xs ∙ sym (ap (λ (k : ℕ). formAt k .allowed xs) e)
+  | no h ↦ sym (others-allowed n (padded 8 xs) h) ∙ others-allowed n xs h
+]
 
 -- a word that is ours, read as a row, is written back as that word
 pub word-back : (w : ℕ) (i : Instruction) (word : ℕ) → w < 2 ^ 32 → decodeOf w ≡ Dec.Ours i → (encodedReply (rowOf i) ≡ 0) × (encodedWord (rowOf i) word ≡ w)
@@ -62,6 +73,7 @@ row-instruction (Pnext s pv pdn) = build-fields (Pnext s pv pdn)
 row-instruction (Pfirst pg pdn) = refl
 row-instruction (Ptest pg pn) = refl
 row-instruction (Pfalse pd) = refl
+row-instruction (Logic o s pm pg pn pd) = build-fields (Logic o s pm pg pn pd)
 
 -- a row that fits is the row of what its word is read as
 row-read : (n : ℕ) (xs : List ℕ) → n < length forms → formAt n .allowed xs ≡ true → fits (rowLayout (formAt n)) xs ≡ true

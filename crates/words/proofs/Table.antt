@@ -1,14 +1,15 @@
 -- The table's rules, each computed once over all its rows: every layout is a whole word, well formed, and no two forms share a word.
-use Prim.Native.Nat.{ℕ, zero, suc, _<_}
-use mathlib.Core.Path.{_≡_, refl, sym}
+use Prim.Native.Nat.{ℕ, zero, suc, _+_, _*_, _<_}
+use mathlib.Core.Path.{_≡_, refl, sym, ap, _∙_}
 use mathlib.Core.Bool.{Bool, true, false, _&&_}
 use mathlib.Core.List.{List, [], _∷_}
 use native.Mathlib.Omega.{arith}
-use lib.ListN.{length, getD}
+use lib.ListN.{length, getD, drop}
+use lib.Seq.{getD-drop}
 use lib.Dec.{eqb}
 use borrow.Author.Tests.{eqb-true}
 use Rattle.words.specs.Layout.{span, matches, cut}
-use Rattle.words.specs.Words.{Form, pfalseForm, forms, formAt, reads, instructionIn, readBy, decodeOf}
+use Rattle.words.specs.Words.{flag, hasLogic, Form, pfalseForm, forms, formAt, reads, instructionIn, readBy, decodeOf}
 use Rattle.words.specs.declared.Decoded.the-variants.{Ours}
 use Rattle.words.proofs.Codec.{both, wellFormed}
 use Rattle.words.proofs.Clash.{clash, apart}
@@ -78,6 +79,24 @@ finds-in (g ∷ gs) (suc n) w c l h =
 pub finds : (n w : ℕ) → n < length forms → reads (formAt n) w ≡ true → Ours (instructionIn (formAt n) w) ≡ decodeOf w
 finds n w l h = finds-in forms n w all-apart l h
 
--- every form has a word with any fields
-pub all-allowed : (n : ℕ) (xs : List ℕ) → true ≡ formAt n .allowed xs
-all-allowed n xs = sym (every-at (λ (f : Form). f .allowed xs) forms pfalseForm n refl refl)
+-- a list without its element at k, and what holds of all that is left
+abbrev without : ℕ → List Form → List Form
+without k [] = []
+without zero (f ∷ fs) = fs
+without (suc k) (f ∷ fs) = f ∷ without k fs
+
+every-other : (p : Form → Bool) (fs : List Form) (d : Form) (k n : ℕ) → every p (without k fs) ≡ true → p d ≡ true → (n ≡ k → ⊥) → p (getD fs n d) ≡ true
+every-other p [] d k n h e l = e
+every-other p (g ∷ gs) d zero zero h e l = absurd (l refl)
+every-other p (g ∷ gs) d zero (suc n) h e l = every-at p gs d n h e
+every-other p (g ∷ gs) d (suc k) zero h e l = both (p g) (every p (without k gs)) h .0
+every-other p (g ∷ gs) d (suc k) (suc n) h e l = every-other p gs d k n (both (p g) (every p (without k gs)) h .1) e (λ q. l (ap suc q))
+
+-- every form but logic's has a word with any fields
+pub others-allowed : (n : ℕ) (xs : List ℕ) → (n ≡ 11 → ⊥) → true ≡ formAt n .allowed xs
+others-allowed n xs h = sym (every-other (λ (f : Form). f .allowed xs) forms pfalseForm 11 n refl refl h)
+
+-- logic has a word with those that leave SEL and S = 1 apart
+pub logic-allowed : (n : ℕ) (row : List ℕ) {a b d : ℕ} {t : Bool} → n ≡ 11 → a ≡ getD row 1 0 → b ≡ getD row 5 0 → d ≡ getD row 7 0 → t ≡ hasLogic (a * 4 + b * 2 + d) (flag (getD row 2 0))
+    → t ≡ formAt n .allowed (drop 1 row)
+logic-allowed n row e ha hb hd ht = ht ∙ rw (e, ha, hb, hd) (sym (simp getD-drop))

@@ -1,6 +1,6 @@
 -- The table of words, and reading and writing by it.
-use Prim.Native.Nat.{ℕ, zero, suc}
-use mathlib.Core.Bool.{Bool, true, false, _&&_}
+use Prim.Native.Nat.{ℕ, zero, suc, _+_, _*_, _/_, _%_}
+use mathlib.Core.Bool.{Bool, true, false, not, _&&_}
 use mathlib.Core.List.{List, [], _∷_}
 use lib.Dec.{eqb}
 use lib.ListN.{getD, drop}
@@ -12,14 +12,16 @@ use Rattle.replies.specs.declared.Reply.{Reply}
 use Rattle.replies.specs.declared.Reply.the-variants.{UnknownWord, FieldPastRange}
 use Rattle.words.specs.Layout.{Piece, upper, matches, cut, fits, place, given, always}
 use Rattle.words.specs.Layout.Piece.{fixed}
-use Rattle.words.specs.Fields.{opcode, size, sf, U, lt, eq, D, vl, Rm, Rn, Rd, Rdn, Pd, Pg, Pm, Pn, Pv, Pdn, PNd, PNn}
+use Rattle.words.specs.Fields.{opcode, size, sf, U, lt, eq, D, vl, op, S, o2, o3, Rm, Rn, Rd, Rdn, Pd, Pg, Pm, Pn, Pv, Pdn, PNd, PNn}
 use Rattle.scalars.specs.While.{upward}
 use Rattle.scalars.specs.declared.Condition.{Condition}
 use Rattle.scalars.specs.declared.Condition.the-variants.{Less, LessEqual, GreaterEqual, Greater}
 use Rattle.words.specs.declared.Target.{Target}
 use Rattle.words.specs.declared.Target.the-variants.{One, Pair, Counter}
+use Rattle.words.specs.declared.Operation.{Operation}
+use Rattle.words.specs.declared.Operation.the-variants.{And, Bic, Eor, Sel, Orr, Orn, Nor, Nand}
 use Rattle.words.specs.declared.Instruction.{Instruction}
-use Rattle.words.specs.declared.Instruction.the-variants.{While, Saturating, IncDec, Cntp, CntpCounter, Pnext, Pfirst, Ptest, Pfalse}
+use Rattle.words.specs.declared.Instruction.the-variants.{While, Saturating, IncDec, Cntp, CntpCounter, Pnext, Pfirst, Ptest, Pfalse, Logic}
 use Rattle.words.specs.declared.Decoded.{Decoded}
 use Rattle.words.specs.declared.Decoded.the-variants as Dec
 use Rattle.words.specs.declared.Encoded.{Encoded}
@@ -47,6 +49,26 @@ eqBit Less = false
 eqBit LessEqual = true
 eqBit GreaterEqual = false
 eqBit Greater = true
+
+-- operations by op o2 o3, from 000 to 111, and these three bits as one number
+abbrev pub operations : List Operation
+operations = And ∷ Bic ∷ Eor ∷ Sel ∷ Orr ∷ Orn ∷ Nor ∷ Nand ∷ []
+
+abbrev pub operationBits : ℕ → ℕ → ℕ → ℕ
+operationBits op o2 o3 = op * 4 + o2 * 2 + o3
+
+abbrev pub operationOf : ℕ → Operation
+operationOf n = getD operations n Nand
+
+abbrev pub operationNumber : Operation → ℕ
+operationNumber And = 0b000
+operationNumber Bic = 0b001
+operationNumber Eor = 0b010
+operationNumber Sel = 0b011
+operationNumber Orr = 0b100
+operationNumber Orn = 0b101
+operationNumber Nor = 0b110
+operationNumber Nand = 0b111
 
 -- a form: what its bits are; by its fields, the level that it asks, whether it has a word with them, and the instruction that they build
 pub record Form : Type 0 where
@@ -144,9 +166,21 @@ pfalseForm = record {
   build = given 1 (λ pd. Pfalse pd);
 }
 
+-- SEL with S = 1 is left out
+abbrev pub hasLogic : ℕ → Bool → Bool
+hasLogic bits s = not (eqb bits 0b011 && s)
+
+abbrev pub logicForm : Form
+logicForm = record {
+  layout = opcode ∷ op ∷ S ∷ fixed 2 0b00 ∷ Pm 4 ∷ fixed 2 0b01 ∷ Pg 4 ∷ o2 ∷ Pn 4 ∷ o3 ∷ Pd 4 ∷ [];
+  level = always 1;
+  allowed = given 8 (λ op s pm pg o2 pn o3 pd. hasLogic (operationBits op o2 o3) (flag s));
+  build = given 8 (λ op s pm pg o2 pn o3 pd. Logic (operationOf (operationBits op o2 o3)) (flag s) pm pg pn pd);
+}
+
 -- the table; a form's number is its place
 abbrev pub forms : List Form
-forms = whileOneForm ∷ whilePairForm ∷ whileCounterForm ∷ saturatingForm ∷ incDecForm ∷ cntpForm ∷ cntpCounterForm ∷ pnextForm ∷ pfirstForm ∷ ptestForm ∷ pfalseForm ∷ []
+forms = whileOneForm ∷ whilePairForm ∷ whileCounterForm ∷ saturatingForm ∷ incDecForm ∷ cntpForm ∷ cntpCounterForm ∷ pnextForm ∷ pfirstForm ∷ ptestForm ∷ pfalseForm ∷ logicForm ∷ []
 
 -- the form of a number below the table's length
 abbrev pub formAt : ℕ → Form
@@ -168,6 +202,9 @@ numbersOf (Pnext size pv pdn) = 7 ∷ shift size ∷ pv ∷ pdn ∷ []
 numbersOf (Pfirst pg pdn) = 8 ∷ pg ∷ pdn ∷ []
 numbersOf (Ptest pg pn) = 9 ∷ pg ∷ pn ∷ []
 numbersOf (Pfalse pd) = 10 ∷ pd ∷ []
+numbersOf (Logic o s pm pg pn pd) =
+    let n = operationNumber o in
+    11 ∷ n / 4 % 2 ∷ digit s ∷ pm ∷ pg ∷ n / 2 % 2 ∷ pn ∷ n % 2 ∷ pd ∷ []
 
 abbrev pub formOf : Instruction → Form
 formOf i = formAt (getD (numbersOf i) 0 0)

@@ -6,7 +6,7 @@ use bits::Size;
 use replies::Reply;
 use scalars::Condition;
 ghost use mathlib.Core.Path.{_≡_};
-ghost use Rattle.words.specs.Words.{levelOf};
+ghost use Rattle.words.specs.Words.{levelOf, hasLogic};
 
 mod read;
 mod row;
@@ -23,6 +23,18 @@ pub enum Target {
     One { wide: bool, pd: u8 },
     Pair { pd: u8 },
     Counter { four: bool, pnd: u8 },
+}
+
+// What predicate logic makes of two bits; BIC and ORN invert the second.
+pub enum Operation {
+    And,
+    Bic,
+    Eor,
+    Sel,
+    Orr,
+    Orn,
+    Nor,
+    Nand,
 }
 
 pub enum Instruction {
@@ -76,6 +88,15 @@ pub enum Instruction {
     Pfalse {
         pd: u8,
     },
+    // Logic on predicates; `flags` tells whether it sets them.
+    Logic {
+        operation: Operation,
+        flags: bool,
+        pm: u8,
+        pg: u8,
+        pn: u8,
+        pd: u8,
+    },
 }
 
 // What a word is.
@@ -88,6 +109,13 @@ pub enum Decoded {
 pub enum Encoded {
     Word(u32),
     Refused(Reply),
+}
+
+// Whether logic has a word for an operation, given as op, o2 and o3 in one number: SEL has none that sets flags.
+fn has_logic(operation: u32, flags: bool) -> bool
+    ensures { λ r. ⌜ r ≡ hasLogic operation flags ⌝ }
+{
+    !((operation == 0b011) & flags)
 }
 
 // The level that an instruction asks.
@@ -112,5 +140,6 @@ pub fn level(i: Instruction) -> u8
         Instruction::Pfirst { .. } => 1,
         Instruction::Ptest { .. } => 1,
         Instruction::Pfalse { .. } => 1,
+        Instruction::Logic { .. } => 1,
     }
 }

@@ -1,6 +1,7 @@
 // Reading a word: for each form a test of its fixed bits, from the highest down as in the table, and a cut of its fields.
 use super::Decoded;
 use super::Instruction;
+use super::Operation;
 use super::Target;
 use bits::Size;
 use replies::Reply;
@@ -8,7 +9,7 @@ use scalars::Condition;
 ghost use mathlib.Core.Path.{_≡_};
 ghost use lib.ListN.{drop};
 ghost use Rattle.words.specs.Layout.{slice};
-ghost use Rattle.words.specs.Words.{whileOneForm, whilePairForm, whileCounterForm, saturatingForm, incDecForm, cntpForm, cntpCounterForm, pnextForm, pfirstForm, ptestForm, pfalseForm, conditionOf, sizeOf, flag, forms, instructionIn, readBy, decodeOf};
+ghost use Rattle.words.specs.Words.{whileOneForm, whilePairForm, whileCounterForm, saturatingForm, incDecForm, cntpForm, cntpCounterForm, pnextForm, pfirstForm, ptestForm, pfalseForm, logicForm, conditionOf, sizeOf, operationBits, operationOf, flag, forms, instructionIn, readBy, decodeOf};
 ghost use Rattle.words.specs.Inside.{tests};
 
 // Size 00 to 11; a larger number is taken for 11.
@@ -39,6 +40,22 @@ fn condition_of(lt: bool, eq: bool) -> Condition
         } else {
             Condition::GreaterEqual
         }
+    }
+}
+
+// Operations by op, o2 and o3 as one number; a larger number is taken for 111.
+fn operation_of(n: u32) -> Operation
+    ensures { λ r. ⌜ r ≡ operationOf n ⌝ }
+{
+    match n {
+        0b000 => Operation::And,
+        0b001 => Operation::Bic,
+        0b010 => Operation::Eor,
+        0b011 => Operation::Sel,
+        0b100 => Operation::Orr,
+        0b101 => Operation::Orn,
+        0b110 => Operation::Nor,
+        _ => Operation::Nand,
     }
 }
 
@@ -254,6 +271,35 @@ fn read_pfalse(w: u32) -> Instruction
     }
 }
 
+fn operation_bits(w: u32) -> u32
+    ensures { λ r. ⌜ r ≡ operationBits (slice 23 1 w) (slice 9 1 w) (slice 4 1 w) ⌝ }
+{
+    ((w >> 23) % 2) * 4 + ((w >> 9) % 2) * 2 + (w >> 4) % 2
+}
+
+fn is_logic(w: u32) -> bool
+    ensures { λ r. ⌜ r ≡ tests logicForm w ⌝ }
+{
+    super::has_logic(operation_bits(w), (w >> 22) % 2 == 1)
+        & ((w >> 24) % 256 == 0b00100101)
+        & ((w >> 20) % 4 == 0b00)
+        & ((w >> 14) % 4 == 0b01)
+}
+
+fn read_logic(w: u32) -> Instruction
+    ensures { λ r. ⌜ r ≡ instructionIn logicForm w ⌝ }
+{
+    let operation = operation_of(operation_bits(w));
+    Instruction::Logic {
+        operation,
+        flags: (w >> 22) % 2 == 1,
+        pm: ((w >> 16) % 16) as u8,
+        pg: ((w >> 10) % 16) as u8,
+        pn: ((w >> 5) % 16) as u8,
+        pd: ((w >> 0) % 16) as u8,
+    }
+}
+
 // The forms that count.
 fn decode_count(w: u32) -> Decoded
     ensures { λ r. ⌜ r ≡ readBy (drop 3 forms) w ⌝ }
@@ -288,6 +334,9 @@ fn decode_predicate(w: u32) -> Decoded
     }
     if is_pfalse(w) {
         return Decoded::Ours(read_pfalse(w));
+    }
+    if is_logic(w) {
+        return Decoded::Ours(read_logic(w));
     }
     Decoded::Refused(Reply::UnknownWord)
 }

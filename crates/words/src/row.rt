@@ -1,5 +1,6 @@
 // Instructions as rows of nine numbers: the form's, the fields from the highest bit down, zeros.
 use super::Instruction;
+use super::Operation;
 use super::Target;
 use bits::Size;
 use scalars::Condition;
@@ -7,7 +8,7 @@ ghost use mathlib.Core.Path.{_≡_};
 ghost use Rattle.bits.specs.Choice.{digit};
 ghost use Rattle.bits.specs.Size.{shift};
 ghost use Rattle.scalars.specs.While.{upward};
-ghost use Rattle.words.specs.Words.{eqBit};
+ghost use Rattle.words.specs.Words.{eqBit, operationNumber};
 ghost use Rattle.words.specs.Rows.{rowOf};
 
 fn bit_of(b: bool) -> u8
@@ -41,6 +42,22 @@ fn size_number(size: Size) -> u8
         Size::H => 1,
         Size::S => 2,
         Size::D => 3,
+    }
+}
+
+// The bits op, o2 and o3 as one number.
+fn operation_number(o: Operation) -> u8
+    ensures { λ r. ⌜ r ≡ operationNumber o ⌝ }
+{
+    match o {
+        Operation::And => 0b000,
+        Operation::Bic => 0b001,
+        Operation::Eor => 0b010,
+        Operation::Sel => 0b011,
+        Operation::Orr => 0b100,
+        Operation::Orn => 0b101,
+        Operation::Nor => 0b110,
+        Operation::Nand => 0b111,
     }
 }
 
@@ -81,6 +98,14 @@ fn saturating_row(
     [3, s, d, u, bit_of(wide), pm, rdn, 0, 0]
 }
 
+fn logic_row(operation: Operation, flags: bool, pm: u8, pg: u8, pn: u8, pd: u8) -> [u8; 9]
+    ensures { λ r. ⌜ r ≡ rowOf (Instruction.Logic operation flags pm pg pn pd) ⌝ }
+{
+    let n = operation_number(operation);
+    let s = bit_of(flags);
+    [11, n / 4 % 2, s, pm, pg, n / 2 % 2, pn, n % 2, pd]
+}
+
 // The row of an instruction.
 pub fn row_of(i: Instruction) -> [u8; 9]
     ensures { λ r. ⌜ r ≡ rowOf i ⌝ }
@@ -119,5 +144,13 @@ pub fn row_of(i: Instruction) -> [u8; 9]
         Instruction::Pfirst { pg, pdn } => [8, pg, pdn, 0, 0, 0, 0, 0, 0],
         Instruction::Ptest { pg, pn } => [9, pg, pn, 0, 0, 0, 0, 0, 0],
         Instruction::Pfalse { pd } => [10, pd, 0, 0, 0, 0, 0, 0, 0],
+        Instruction::Logic {
+            operation,
+            flags,
+            pm,
+            pg,
+            pn,
+            pd,
+        } => logic_row(operation, flags, pm, pg, pn, pd),
     }
 }

@@ -19,7 +19,7 @@ struct Places {
 }
 
 // How many forms there are.
-const FORMS: usize = 11;
+const FORMS: usize = 12;
 
 // Where each form's bits lie, in the order of the table.
 const TABLE: [Places; FORMS] = [
@@ -89,6 +89,12 @@ const TABLE: [Places; FORMS] = [
         low: [0, 0, 0, 0, 0, 0, 0, 0],
         width: [4, 0, 0, 0, 0, 0, 0, 0],
     },
+    // logic
+    Places {
+        fixed: 0x25004000,
+        low: [23, 22, 16, 10, 9, 5, 4, 0],
+        width: [1, 1, 4, 4, 1, 4, 1, 4],
+    },
 ];
 
 fn places_of(form: usize) -> Places
@@ -98,11 +104,24 @@ fn places_of(form: usize) -> Places
     TABLE[form]
 }
 
-// Whether a form has a word with the fields of a row: today each has one with any.
+// The number of the form that leaves a combination of fields out.
+const LOGIC: usize = 11;
+
+// Whether a form has a word with the fields of a row: logic leaves out SEL with S = 1.
 fn is_allowed(form: usize, row: [u8; 9]) -> bool
     ensures { λ r. ⌜ r ≡ formAt form .allowed (drop 1 row) ⌝ }
 {
-    true
+    if form != LOGIC {
+        return true;
+    }
+    let bits = wide(row[1]) * 4 + wide(row[5]) * 2 + wide(row[7]);
+    super::has_logic(bits, row[2] == 1)
+}
+
+fn wide(x: u8) -> u32
+    ensures { λ r. ⌜ (r ≡ x) × (r < 256) ⌝ }
+{
+    x as u32
 }
 
 // A number is below 2 ^ width.

@@ -59,6 +59,12 @@ enum-told-3 c = search needs
 pfalse-requires : tie.Need-pfalse-requires
 pfalse-requires c κs = search needs
 
+enum-known-i-7 : tie.Need-enum-known-i-7
+enum-known-i-7 c = search needs
+
+logic-requires : tie.Need-logic-requires
+logic-requires c κs = search needs
+
 returns : tie.Need-returns
 unfolding computeOf
 returns c = search (by-form, needs) depth 9
@@ -95,6 +101,10 @@ returns-9 : tie.Need-returns-9
 unfolding computeOf
 returns-9 c = search (by-form, needs) depth 9
 
+returns-10 : tie.Need-returns-10
+unfolding computeOf
+returns-10 c = search (by-form, needs) depth 9
+
 pub compute-spec : {M : Type 1} → statement M
 compute-spec =
     tie.close
@@ -117,6 +127,8 @@ compute-spec =
     ptest-requires
     enum-told-3
     pfalse-requires
+    enum-known-i-7
+    logic-requires
     returns
     returns-2
     returns-3
@@ -125,4 +137,5 @@ compute-spec =
     returns-6
     returns-7
     returns-8
-    returns-9)
+    returns-9
+    returns-10)

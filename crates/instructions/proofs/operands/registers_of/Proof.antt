@@ -64,6 +64,12 @@ enum-known-i-9 c = search needs
 masking-requires-4 : tie.Need-masking-requires-4
 masking-requires-4 c κs = search needs
 
+enum-known-i-10 : tie.Need-enum-known-i-10
+enum-known-i-10 c = search needs
+
+masking-requires-5 : tie.Need-masking-requires-5
+masking-requires-5 c κs = search needs
+
 returns : tie.Need-returns
 returns c = search (names-targets, needs) depth 9
 
@@ -91,6 +97,9 @@ returns-8 c = search (names, needs) depth 9
 returns-9 : tie.Need-returns-9
 returns-9 c = search (names, needs) depth 9
 
+returns-10 : tie.Need-returns-10
+returns-10 c = search (names, needs) depth 9
+
 pub registers-of-spec : {M : Type 1} → statement M
 registers-of-spec =
     tie.close
@@ -115,6 +124,8 @@ registers-of-spec =
     masking-requires-3
     enum-known-i-9
     masking-requires-4
+    enum-known-i-10
+    masking-requires-5
     returns
     returns-2
     returns-3
@@ -123,4 +134,5 @@ registers-of-spec =
     returns-6
     returns-7
     returns-8
-    returns-9)
+    returns-9
+    returns-10)

@@ -1,0 +1,30 @@
+-- `Predicate::complement` meets its contract: XOR of a word with all ones is `not` of its bits. Assumes nothing.
+use mathlib.Core.Bool.{not}
+use Prim.Native.Nat.{ℕ}
+use lib.Bits.{bitXor}
+use borrow.Author.Needs.{needs}
+use Rattle.bits.proofs.Bits.{number-not}
+use Rattle.predicates.proofs.Words.{words-of, pack-op}
+use Rattle.predicates.proofs.Predicate.complement.Statement.{statement}
+use Rattle.predicates.proofs.Predicate.complement.Tie as tie
+
+array-read-t5 : tie.Need-array-read-t5
+array-read-t5 c = search needs
+
+array-read-t9 : tie.Need-array-read-t9
+array-read-t9 c = search needs
+
+array-read-t13 : tie.Need-array-read-t13
+array-read-t13 c = search needs
+
+array-read-t17 : tie.Need-array-read-t17
+array-read-t17 c = search needs
+
+returns : tie.Need-returns
+returns c =
+    let p = c .before .args .self in
+    pack-op (λ a b. not a) (λ a b. bitXor a 0xffff_ffff_ffff_ffff) (λ f g (at : ℕ). number-not f at 64) p p (search (needs, words-of)) (search (needs, words-of))
+
+pub complement-spec : {M : Type 1} → statement M
+complement-spec =
+    tie.close (tie.spec array-read-t5 array-read-t9 array-read-t13 array-read-t17 returns)
