@@ -33,7 +33,7 @@ enum plokamyr_reply {
     PLOKAMYR_NOT_ALLOWED = 6,         /* a count or a byte of an image that is not allowed */
     PLOKAMYR_TRAILING_BYTES = 7,      /* bytes after the last section */
     PLOKAMYR_BUFFER_TOO_SMALL = 8,
-    PLOKAMYR_FIELD_PAST_RANGE = 9,    /* of an instruction to be written */
+    PLOKAMYR_FIELD_PAST_RANGE = 9,    /* of an instruction to be written; also for SEL with S = 1 */
     PLOKAMYR_BAD_WALK_REGISTERS = 10, /* X past 31, P past 15, size past 3, n = 31, n = m, or d = k */
     PLOKAMYR_LIST_TOO_SHORT = 11,     /* fewer places than positions to visit */
     PLOKAMYR_BUDGET_SPENT = 12        /* the walk has not ended */
@@ -144,6 +144,8 @@ size_t plokamyr_text(const uint8_t *image, size_t length, uint8_t *text, size_t 
 
 /* An instruction as numbers: its form, then the fields of the form from the highest bit down, then zeros.
  * The counters and the pair ask level 3, WHILE_ONE asks 1 if lt is 1 and else 2, all others ask 1.
+ * LOGIC is, by op, o2, o3: 000 AND, 001 BIC, 010 EOR, 011 SEL, 100 ORR, 101 ORN, 110 NOR, 111 NAND. With S = 1 it sets the flags,
+ * which SEL cannot: SEL with S = 1 is no instruction.
  * Later versions may add forms: keep a default. */
 enum plokamyr_form {
     PLOKAMYR_WHILE_ONE = 0,     /* size, Rm, sf, U, lt, Rn, eq, Pd */
@@ -156,15 +158,17 @@ enum plokamyr_form {
     PLOKAMYR_PNEXT = 7,         /* size, Pv, Pdn */
     PLOKAMYR_PFIRST = 8,        /* Pg, Pdn */
     PLOKAMYR_PTEST = 9,         /* Pg, Pn */
-    PLOKAMYR_PFALSE = 10        /* Pd */
+    PLOKAMYR_PFALSE = 10,       /* Pd */
+    PLOKAMYR_LOGIC = 11         /* AND, BIC, EOR, SEL, ORR, ORN, NOR, NAND: op, S, Pm, Pg, o2, Pn, o3, Pd */
 };
 
 #define PLOKAMYR_ROW 9
 
-/* Reads a word as an instruction. Refusal: 1. */
+/* Reads a word as an instruction. Refusal: 1, also for SEL with S = 1. */
 enum plokamyr_reply plokamyr_decode(uint32_t word, uint8_t row[PLOKAMYR_ROW]);
 
-/* Writes an instruction as a word. Refusal: 9, for a form or a field past its range, or a number other than 0 after the form's fields. */
+/* Writes an instruction as a word. Refusal: 9, for a form or a field past its range, a number other than 0 after the form's fields,
+ * or SEL with S = 1. */
 enum plokamyr_reply plokamyr_encode(const uint8_t row[PLOKAMYR_ROW], uint32_t *word);
 
 /* The library is compiled for these sizes. */

@@ -2,12 +2,16 @@
 #include "check.h"
 
 enum {
-    PFALSE = 0x2518E400,       /* p0: level 1 */
-    WHILEGE = 0x25201000,      /* p0.b, x0, x0: level 2 */
-    WHILE_COUNTER = 0x25204010 /* level 3 */
+    PFALSE = 0x2518E400,        /* p0: level 1 */
+    WHILEGE = 0x25201000,       /* p0.b, x0, x0: level 2 */
+    WHILE_COUNTER = 0x25204010, /* level 3 */
+    AND = 0x25044861,           /* p1.b, p2/z, p3.b, p4.b: level 1 */
+    SEL = 0x25034650,           /* p0.b, p1, p2.b, p3.b: level 1 */
+    SETS_FLAGS = 0x00400000     /* S of a word of predicate logic; SEL has no form with it */
 };
 
-static const uint32_t foreign[6] = {0, 0xFFFFFFFF, 0x2518E410, 0x2519C410, 0x25000000, 0x24201C00};
+enum { FOREIGN = 7 };
+static const uint32_t foreign[FOREIGN] = {0, 0xFFFFFFFF, 0x2518E410, 0x2519C410, 0x25000000, 0x24201C00, SEL | SETS_FLAGS};
 
 /* ---- illegal states */
 
@@ -73,25 +77,30 @@ static void step_refusals(void) {
     for (uint8_t level = 0; level < 4; level++) {
         struct plokamyr_state s = with_level(level);
         s.access = false;
-        for (int i = 0; i < 6; i++) expect_step(&s, foreign[i], PLOKAMYR_UNKNOWN_WORD);
+        for (int i = 0; i < FOREIGN; i++) expect_step(&s, foreign[i], PLOKAMYR_UNKNOWN_WORD);
         for (uint8_t asked = 1; asked < 4; asked++) {
             expect_step(&s, words[asked], level < asked ? PLOKAMYR_LEVEL_TOO_LOW : PLOKAMYR_ACCESS_OFF);
         }
+        expect_step(&s, AND, level < 1 ? PLOKAMYR_LEVEL_TOO_LOW : PLOKAMYR_ACCESS_OFF);
     }
 }
 
-/* Words of every form, one after the other from states of every length. */
+/* Words of every form, one after the other from states of every length. The last four are predicate logic: without flags,
+ * and with them all but SEL, in three parts. */
 static void steps_agree(void) {
-    static const uint32_t fixed[13] = {0x25200000, 0x25205010, 0x25204010, 0x25288800, 0x25288C00, 0x252C8800, 0x252D8800,
-                                       0x25208000, 0x25208200, 0x2519C400, 0x2558C000, 0x2550C000, 0x2518E400};
-    static const uint32_t drawn[13] = {0x00DF1FFF, 0x00DF0FEF, 0x00DF2FEF, 0x00C301FF, 0x00C301FF, 0x00C001FF, 0x00C001FF,
-                                       0x00C03DFF, 0x00C005FF, 0x00C001EF, 0x000001EF, 0x00003DE0, 0x0000000F};
+    enum { KINDS = 17 };
+    static const uint32_t fixed[KINDS] = {0x25200000, 0x25205010, 0x25204010, 0x25288800, 0x25288C00, 0x252C8800,
+                                          0x252D8800, 0x25208000, 0x25208200, 0x2519C400, 0x2558C000, 0x2550C000,
+                                          0x2518E400, 0x25004000, 0x25C04000, 0x25404000, 0x25404200};
+    static const uint32_t drawn[KINDS] = {0x00DF1FFF, 0x00DF0FEF, 0x00DF2FEF, 0x00C301FF, 0x00C301FF, 0x00C001FF,
+                                          0x00C001FF, 0x00C03DFF, 0x00C005FF, 0x00C001EF, 0x000001EF, 0x00003DE0,
+                                          0x0000000F, 0x008F3FFF, 0x000F3FFF, 0x000F3DFF, 0x000F3DEF};
     for (int i = 0; i < 5; i++) {
         struct plokamyr_state s = sample(lengths[i]);
-        for (uint64_t at = 0; at < 13 * 40; at++) {
+        for (uint64_t at = 0; at < KINDS * 40; at++) {
             s.x[at % 31] = mixed(at) % 300; /* small, so that a WHILE may end within the vector */
             s.p[at % 16].words[0] |= mixed(at + 1) & live(lengths[i], 0); /* PFALSE must not leave all empty */
-            s = both_steps(&s, fixed[at % 13] | ((uint32_t)mixed(at + 2) & drawn[at % 13]), PLOKAMYR_DONE);
+            s = both_steps(&s, fixed[at % KINDS] | ((uint32_t)mixed(at + 2) & drawn[at % KINDS]), PLOKAMYR_DONE);
         }
     }
 }
@@ -131,7 +140,7 @@ static void run_refusals(void) {
     s.access = false;
     expect_run(&s, NULL, 0, PLOKAMYR_DONE, PLOKAMYR_DONE);
     expect_run(&s, words, 0, PLOKAMYR_DONE, PLOKAMYR_DONE);
-    for (int i = 0; i < 6; i++) expect_run(&s, foreign + i, 1, PLOKAMYR_DONE, PLOKAMYR_UNKNOWN_WORD);
+    for (int i = 0; i < FOREIGN; i++) expect_run(&s, foreign + i, 1, PLOKAMYR_DONE, PLOKAMYR_UNKNOWN_WORD);
     expect_run(&s, words, 2, PLOKAMYR_DONE, PLOKAMYR_LEVEL_TOO_LOW);
     s.level = 3;
     expect_run(&s, words, 2, PLOKAMYR_DONE, PLOKAMYR_ACCESS_OFF);
@@ -154,7 +163,7 @@ static void run_stops(void) {
     expect_three(&s, words, 3, PLOKAMYR_DONE);
     expect_three(&s, words, 4, PLOKAMYR_LEVEL_TOO_LOW);
     expect_three(&s, words, 5, PLOKAMYR_LEVEL_TOO_LOW);
-    for (int i = 0; i < 6; i++) {
+    for (int i = 0; i < FOREIGN; i++) {
         words[3] = foreign[i];
         expect_three(&s, words, 5, PLOKAMYR_UNKNOWN_WORD);
     }
@@ -482,7 +491,8 @@ static void longest_text(void) {
 /* ---- words */
 
 /* The bits of each field; the places after them have none, so that 0 alone is allowed there. */
-static const uint8_t field_bits[11][PLOKAMYR_ROW - 1] = {
+enum { FORMS = 12 };
+static const uint8_t field_bits[FORMS][PLOKAMYR_ROW - 1] = {
     [PLOKAMYR_WHILE_ONE] = {2, 5, 1, 1, 1, 5, 1, 4},
     [PLOKAMYR_WHILE_PAIR] = {2, 5, 1, 1, 5, 3, 1},
     [PLOKAMYR_WHILE_COUNTER] = {2, 5, 1, 1, 1, 5, 1, 3},
@@ -494,6 +504,7 @@ static const uint8_t field_bits[11][PLOKAMYR_ROW - 1] = {
     [PLOKAMYR_PFIRST] = {4, 4},
     [PLOKAMYR_PTEST] = {4, 4},
     [PLOKAMYR_PFALSE] = {4},
+    [PLOKAMYR_LOGIC] = {1, 1, 4, 4, 1, 4, 1, 4},
 };
 
 static void expect_encode(const uint8_t row[PLOKAMYR_ROW], enum plokamyr_reply reply) {
@@ -540,10 +551,11 @@ static void expect_decode(uint32_t word, enum plokamyr_reply reply, const uint8_
 }
 
 static void each_form(void) {
+    enum { KNOWN = 17 };
     static const struct {
         uint32_t word;
         uint8_t row[PLOKAMYR_ROW];
-    } known[12] = {
+    } known[KNOWN] = {
         {0x25A21C20, {PLOKAMYR_WHILE_ONE, 2, 2, 1, 1, 1, 1, 0, 0}},     /* WHILELO p0.s, x1, x2 */
         {0x25E55893, {PLOKAMYR_WHILE_PAIR, 3, 5, 1, 0, 4, 1, 1}},       /* WHILEHI p2.d and p3.d, x4, x5 */
         {0x25A24438, {PLOKAMYR_WHILE_COUNTER, 2, 2, 0, 0, 1, 1, 1, 0}}, /* WHILELE pn8.s, x1, x2, two vectors */
@@ -556,15 +568,40 @@ static void each_form(void) {
         {0x2558C064, {PLOKAMYR_PFIRST, 3, 4}},                          /* PFIRST p4.b, p3, p4.b */
         {0x2550C440, {PLOKAMYR_PTEST, 1, 2}},                           /* PTEST p1, p2.b */
         {0x2518E403, {PLOKAMYR_PFALSE, 3}},                             /* PFALSE p3.b */
+        {AND, {PLOKAMYR_LOGIC, 0, 0, 4, 2, 0, 3, 0, 1}},                /* AND p1.b, p2/z, p3.b, p4.b */
+        {0x254858F5, {PLOKAMYR_LOGIC, 0, 1, 8, 6, 0, 7, 1, 5}},         /* BICS p5.b, p6/z, p7.b, p8.b */
+        {SEL, {PLOKAMYR_LOGIC, 0, 0, 3, 1, 1, 2, 1, 0}},                /* SEL p0.b, p1, p2.b, p3.b */
+        {0x25C2422F, {PLOKAMYR_LOGIC, 1, 1, 2, 0, 1, 1, 0, 15}},        /* NORS p15.b, p0/z, p1.b, p2.b */
+        {0x25CF7FFF, {PLOKAMYR_LOGIC, 1, 1, 15, 15, 1, 15, 1, 15}},     /* NANDS p15.b, p15/z, p15.b, p15.b */
     };
-    for (int i = 0; i < 12; i++) expect_decode(known[i].word, PLOKAMYR_DONE, known[i].row);
+    for (int i = 0; i < KNOWN; i++) {
+        uint32_t word = 0;
+        expect_decode(known[i].word, PLOKAMYR_DONE, known[i].row);
+        CHECK(plokamyr_encode(known[i].row, &word) == PLOKAMYR_DONE);
+        CHECK(word == known[i].word);
+    }
+}
+
+/* SEL has a word without S alone, whatever its registers are. */
+static void sel_with_flags(void) {
+    for (uint32_t i = 0; i < 256; i++) {
+        uint32_t m = i & 15, g = i >> 4, n = 15 - m, d = 15 - g;
+        uint32_t word = 0x25004210 + (m << 16) + (g << 10) + (n << 5) + d;
+        uint8_t row[PLOKAMYR_ROW] = {PLOKAMYR_LOGIC, 0, 0, (uint8_t)m, (uint8_t)g, 1, (uint8_t)n, 1, (uint8_t)d};
+        expect_decode(word, PLOKAMYR_DONE, row);
+        expect_encode(row, PLOKAMYR_DONE);
+        row[2] = 1;
+        expect_decode(word | SETS_FLAGS, PLOKAMYR_UNKNOWN_WORD, NULL);
+        expect_encode(row, PLOKAMYR_FIELD_PAST_RANGE);
+    }
 }
 
 static void words_edges(void) {
     each_form();
-    for (uint8_t form = 0; form < 11; form++) encode_edges(form);
-    for (unsigned form = 11; form < 256; form++) expect_encode((uint8_t[PLOKAMYR_ROW]){(uint8_t)form}, PLOKAMYR_FIELD_PAST_RANGE);
-    for (int i = 0; i < 6; i++) expect_decode(foreign[i], PLOKAMYR_UNKNOWN_WORD, NULL);
+    sel_with_flags();
+    for (uint8_t form = 0; form < FORMS; form++) encode_edges(form);
+    for (unsigned form = FORMS; form < 256; form++) expect_encode((uint8_t[PLOKAMYR_ROW]){(uint8_t)form}, PLOKAMYR_FIELD_PAST_RANGE);
+    for (int i = 0; i < FOREIGN; i++) expect_decode(foreign[i], PLOKAMYR_UNKNOWN_WORD, NULL);
 }
 
 int main(void) {

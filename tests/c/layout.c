@@ -275,11 +275,12 @@ static void parts_apart(uint64_t vl) {
     struct plokamyr_state s = sample(vl), after = s;
     CHECK(plokamyr_step_lent(&after, 0x2550C1E0) == PLOKAMYR_DONE); /* PTEST p0, p15.b writes the flags, */
     CHECK(plokamyr_step_lent(&after, 0x252C89FE) == PLOKAMYR_DONE); /* INCP x30, p15.b the last register, */
-    CHECK(plokamyr_step_lent(&after, 0x2558C00F) == PLOKAMYR_DONE); /* PFIRST p15.b, p0, p15.b the last predicate */
+    CHECK(plokamyr_step_lent(&after, 0x2558C00F) == PLOKAMYR_DONE); /* PFIRST p15.b, p0, p15.b the last predicate, */
+    CHECK(plokamyr_step_lent(&after, 0x25C2422F) == PLOKAMYR_DONE); /* NORS p15.b, p0/z, p1.b, p2.b that and the flags */
     lay_out(&s);
     poison_stack();
-    static const uint32_t words[3] = {0x2550C1E0, 0x252C89FE, 0x2558C00F};
-    for (int i = 0; i < 3; i++) CHECK(plokamyr_step_parts(vl, 3, true, &flags.value, x.value, p.value, words[i]) == PLOKAMYR_DONE);
+    static const uint32_t words[4] = {0x2550C1E0, 0x252C89FE, 0x2558C00F, 0x25C2422F};
+    for (int i = 0; i < 4; i++) CHECK(plokamyr_step_parts(vl, 3, true, &flags.value, x.value, p.value, words[i]) == PLOKAMYR_DONE);
     check_parts(&after);
     lay_out(&s);
     poison_stack();

@@ -21,15 +21,16 @@ const RATIOS: [(&str, &str); 7] = [
     ("step, lent", "step"),
     ("step, second program", "step"),
     ("run, second program", "run"),
-    ("run, eight forms, qemu", "run, eight forms"),
+    ("run, nine forms, qemu", "run, nine forms"),
     ("walk, second program", "walk"),
     ("walk, qemu", "walk"),
     ("walk, qemu, no positions", "walk"),
 ];
 
 const NOTES: &str = "
-step, run: 4,096 words, the eleven forms in turn, their fields drawn at random, at level 3. The library's state after them
-was compared with the second program's. Step, lent: by way of the step by value. Eight forms: those of levels 1 and 2.
+step, run: 4,096 words, the twelve forms in turn, their fields drawn at random, at level 3. The library's state after them
+was compared with the second program's. Step, lent: by way of the step by value. Nine forms: those of levels 1 and 2.
+Logic: predicate logic alone, all operations, with and without flags.
 walk: 2,000,000 byte positions (the second program: 20,000). Instructions are the walk's own, D + 3R + 2.";
 
 const QEMU_NOTES: &str = "
@@ -40,6 +41,7 @@ INCP alone, so less than the walk does. Both have branches besides, which are no
 struct Bench {
     all: Vec<u32>,
     base: Vec<u32>,
+    logic: Vec<u32>,
     list: Vec<u64>,
     qemu: Option<Qemu>,
     table: Table,
@@ -49,12 +51,14 @@ fn main() {
     let base = words::base_forms(WORDS);
     let qemu = Qemu::build(&base).map_err(|missing| println!("Without QEMU: {missing}.\n")).ok();
     let all = words::all_forms(WORDS);
+    let logic = words::logic(WORDS);
     let list = vec![1; POSITIONS as usize];
-    let mut bench = Bench { all, base, list, qemu, table: Table::default() };
+    let mut bench = Bench { all, base, logic, list, qemu, table: Table::default() };
     for _ in 0..ROUNDS {
         for (column, vl) in LENGTHS.into_iter().enumerate() {
             bench.words_round(column, vl);
             bench.base_words_round(column, vl);
+            bench.logic_round(column, vl);
             bench.walk_round(column, vl);
         }
     }
@@ -83,12 +87,20 @@ impl Bench {
     fn base_words_round(&mut self, column: usize, vl: u64) {
         let start = words::start(vl);
         let Bench { table, base, .. } = self;
-        table.take("run, eight forms", column, library::run(&start, base));
+        table.take("run, nine forms", column, library::run(&start, base));
         if let Some(qemu) = &self.qemu {
             let (time, state) = qemu.run(vl);
             assert_eq!(state, library::after(&start, base), "QEMU's state after the run, and ours");
-            table.take("run, eight forms, qemu", column, time / WORDS as f64);
+            table.take("run, nine forms, qemu", column, time / WORDS as f64);
         }
+    }
+
+    /// Times the words of predicate logic.
+    fn logic_round(&mut self, column: usize, vl: u64) {
+        let start = words::start_of_logic(vl);
+        let Bench { table, logic, .. } = self;
+        table.take("run, logic", column, library::run(&start, logic));
+        table.take("run, logic, second program", column, second::step(&start, logic));
     }
 
     fn walk_round(&mut self, column: usize, vl: u64) {

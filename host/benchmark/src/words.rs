@@ -31,7 +31,7 @@ const fn shape(fixed: u32, bits: &'static [u32], predicates: &'static [u32], reg
 }
 
 /// The forms of levels 1 and 2, in the order of `mix`. The two bits of a size count as two fields of a bit.
-const BASE: [Shape; 8] = [
+const BASE: [Shape; 9] = [
     shape(0x2520_0000, &[23, 22, 12, 11, 10, 4], &[0], &[16, 5]), // WHILE, one predicate
     shape(0x2519_C400, &[23, 22], &[5, 0], &[]),                  // PNEXT
     shape(0x252C_8800, &[23, 22, 16], &[5], &[0]),                // INCP, DECP
@@ -40,7 +40,14 @@ const BASE: [Shape; 8] = [
     shape(0x2528_8800, &[23, 22, 17, 16, 10], &[5], &[0]),        // SQ, UQ INCP, DECP
     shape(0x2550_C000, &[], &[10, 5], &[]),                       // PTEST
     shape(0x2518_E400, &[], &[0], &[]),                           // PFALSE
+    shape(0x2500_4000, &LOGIC_BITS, &[16, 10, 5, 0], &[]),        // predicate logic
 ];
+
+/// op, S, o2, o3.
+const LOGIC_BITS: [u32; 4] = [23, 22, 9, 4];
+
+/// Predicate logic without its mask and target.
+const LOGIC_OPERANDS: Shape = shape(0x2500_4000, &LOGIC_BITS, &[16, 5], &[]);
 
 /// Those of level 3, which QEMU 7.2 does not know. A pair's and a counter's target has three bits, each a field here.
 const LATE: [Shape; 3] = [
@@ -60,7 +67,17 @@ fn register(dice: &mut Dice) -> u32 {
 fn word(shape: &Shape, dice: &mut Dice) -> u32 {
     let bits = shape.bits.iter().fold(shape.fixed, |word, at| word | (dice.below(2) as u32) << at);
     let word = shape.predicates.iter().fold(bits, |word, at| word | (dice.below(16) as u32) << at);
-    shape.registers.iter().fold(word, |word, at| word | register(dice) << at)
+    let word = shape.registers.iter().fold(word, |word, at| word | register(dice) << at);
+    if is_sel_with_s(word) {
+        word & !(1 << 22)
+    } else {
+        word
+    }
+}
+
+/// SEL has no form with S = 1. Its bits are compared without those of its registers.
+fn is_sel_with_s(word: u32) -> bool {
+    word & !0x000F_3DEF == 0x2540_4210
 }
 
 /// The forms in turn, with all fields drawn: `count` words.
@@ -69,14 +86,37 @@ fn mix(shapes: &[&Shape], count: usize) -> Vec<u32> {
     (0..count).map(|i| word(shapes[i % shapes.len()], &mut dice)).collect()
 }
 
-/// Words of all eleven forms.
+/// Words of all twelve forms.
 pub fn all_forms(count: usize) -> Vec<u32> {
     mix(&BASE.iter().chain(&LATE).collect::<Vec<_>>(), count)
 }
 
-/// Words of the eight forms that QEMU executes too.
+/// Words of the nine forms that QEMU executes too.
 pub fn base_forms(count: usize) -> Vec<u32> {
     mix(&BASE.iter().collect::<Vec<_>>(), count)
+}
+
+/// Words of predicate logic alone, all operations with and without flags. The masks are P0 to P3, which no word writes: under
+/// masks that are results themselves, all predicates would soon be empty.
+pub fn logic(count: usize) -> Vec<u32> {
+    let mut dice = Dice::new(0x9E37_79B9_7F4A_7C15);
+    let mut under_a_mask = || {
+        let (mask, target) = (dice.below(4) as u32, 4 + dice.below(12) as u32);
+        word(&LOGIC_OPERANDS, &mut dice) | mask << 10 | target
+    };
+    (0..count).map(|_| under_a_mask()).collect()
+}
+
+/// The same start with any bits in the predicates, all of them in P0.
+pub fn start_of_logic(vl: u64) -> State {
+    let mut dice = Dice::new(0xD134_2543_DE82_EF95);
+    let mut state = start(vl);
+    for bit in 0..16 * vl as usize / 8 {
+        let (p, bit) = (bit % 16, bit / 16);
+        let one = if p == 0 { 1 } else { dice.below(2) };
+        state.p[p].words[bit / 64] |= one << (bit % 64);
+    }
+    state
 }
 
 /// Numbers of 3 to 8 bits in X, so that a WHILE often ends within a vector; the rest is zero.

@@ -3,7 +3,7 @@
 use crate::random::Random;
 use model::{encode, Row, State};
 
-pub const FORMS: [&str; 11] = [
+pub const FORMS: [&str; 12] = [
     "WHILE one",
     "WHILE pair",
     "WHILE counter",
@@ -15,10 +15,11 @@ pub const FORMS: [&str; 11] = [
     "PFIRST",
     "PTEST",
     "PFALSE",
+    "predicate logic",
 ];
 
 /// The widths of each form's fields, from the highest bit of the word down.
-pub const WIDTHS: [&[u8]; 11] = [
+pub const WIDTHS: [&[u8]; FORMS.len()] = [
     &[2, 5, 1, 1, 1, 5, 1, 4],
     &[2, 5, 1, 1, 5, 3, 1],
     &[2, 5, 1, 1, 1, 5, 1, 3],
@@ -30,9 +31,30 @@ pub const WIDTHS: [&[u8]; 11] = [
     &[4, 4],
     &[4, 4],
     &[4],
+    &[1, 1, 4, 4, 1, 4, 1, 4],
 ];
 
-/// A row of the form with every field in range; often with the same register twice, or X31.
+/// The number of predicate logic. The fields are op, S, Pm, Pg, o2, Pn, o3, Pd.
+pub const LOGIC: u8 = 11;
+
+/// What a form leaves out: of predicate logic, SEL with S = 1. No other leaves anything out.
+pub fn is_left_out(row: &Row) -> bool {
+    matches!(*row, [LOGIC, 0, 1, _, _, 1, _, 1, _])
+}
+
+/// The bits of a row of predicate logic, also of one that is left out.
+pub fn logic_word(row: &Row) -> u32 {
+    let lowest_bits = [23, 22, 16, 10, 9, 5, 4, 0];
+    row[1..].iter().zip(lowest_bits).fold(0x2500_4000, |word, (&field, low)| word | u32::from(field) << low)
+}
+
+/// Whether a word has the bits of a row that is left out, with any registers.
+pub fn is_left_out_word(word: u32) -> bool {
+    let [none, all] = [0, 15].map(|p| logic_word(&[LOGIC, 0, 1, p, p, 1, p, 1, p]));
+    word & !(none ^ all) == none
+}
+
+/// A row that the form has: every field in range, often with the same register twice, or X31.
 pub fn row(random: &mut Random, form: usize) -> Row {
     let widths = WIDTHS[form];
     let mut row = [0; 9];
@@ -46,6 +68,9 @@ pub fn row(random: &mut Random, form: usize) -> Row {
     }
     if widths[i] == 5 && random.one_in(4) {
         row[1 + i] = 31;
+    }
+    if is_left_out(&row) {
+        row[2] = 0; // S
     }
     row
 }
@@ -62,13 +87,20 @@ pub fn accepted(random: &mut Random) -> u32 {
     word_of(random, form)
 }
 
-/// A word that is mostly refused: a near miss, one of 25xxxxxx, or anything.
+/// A word that is mostly refused: a near miss, one of 25xxxxxx, one that its form leaves out, or anything.
 pub fn doubtful(random: &mut Random) -> u32 {
-    match random.below(3) {
+    match random.below(4) {
         0 => accepted(random) ^ 1 << random.below(32),
         1 => 0x2500_0000 | random.below(1 << 24) as u32,
+        2 => left_out(random),
         _ => random.next() as u32,
     }
+}
+
+/// A word of predicate logic that is left out.
+fn left_out(random: &mut Random) -> u32 {
+    let [pm, pg, pn, pd] = [(); 4].map(|()| random.below(16) as u8);
+    logic_word(&[LOGIC, 0, 1, pm, pg, 1, pn, 1, pd])
 }
 
 pub fn any(random: &mut Random) -> u32 {

@@ -9,6 +9,7 @@ mod differences;
 mod images;
 mod kind;
 mod lent;
+mod logic;
 mod seen;
 mod steps;
 mod texts;
@@ -33,10 +34,11 @@ fn entry<K: Kind>() -> Entry {
     Entry { name: K::NAME, all: run_all::<K>, one: run_case::<K> }
 }
 
-fn entries() -> [Entry; 10] {
+fn entries() -> [Entry; 11] {
     [
         entry::<steps::Steps>(),
         entry::<steps::Runs>(),
+        entry::<logic::Logic>(),
         entry::<walks::Walks>(),
         entry::<images::Reads>(),
         entry::<images::Cuts>(),

@@ -8,14 +8,14 @@ use model::Row;
 pub struct Seen {
     pub cases: u64,
     replies: [u64; 13],
-    forms: [[u64; 5]; 11],
+    forms: [[u64; LENGTHS.len()]; FORMS.len()],
     notes: Vec<(&'static str, u64)>,
 }
 
 impl Seen {
     pub fn new(notes: &[&'static str]) -> Seen {
         let notes = notes.iter().map(|&name| (name, 0)).collect();
-        Seen { cases: 0, replies: [0; 13], forms: [[0; 5]; 11], notes }
+        Seen { cases: 0, replies: [0; 13], forms: [[0; LENGTHS.len()]; FORMS.len()], notes }
     }
 
     pub fn reply(&mut self, reply: u8) {
@@ -43,8 +43,8 @@ impl Seen {
         println!("{name} {}: {}", grouped(self.cases), self.replies_line());
         let total = |form: usize| self.forms[form].iter().sum::<u64>();
         if self.forms.iter().flatten().any(|&count| count > 0) {
-            let forms: Vec<String> = (0..11).map(|form| format!("{} {}", FORMS[form], grouped(total(form)))).collect();
-            println!("  forms: {}", forms.join(", "));
+            let forms = FORMS.iter().enumerate().map(|(form, name)| format!("{name} {}", grouped(total(form))));
+            println!("  forms: {}", forms.collect::<Vec<_>>().join(", "));
         }
         let notes: Vec<String> = self.notes.iter().map(|(name, count)| format!("{name} {}", grouped(*count))).collect();
         if !notes.is_empty() {
@@ -74,7 +74,7 @@ impl Seen {
             if forms == Forms::Each && total == 0 {
                 missing.push(FORMS[form].to_string());
             }
-            let empty = (0..5).filter(|&length| forms == Forms::EachAtEachLength && counts[length] == 0);
+            let empty = (0..LENGTHS.len()).filter(|&length| forms == Forms::EachAtEachLength && counts[length] == 0);
             missing.extend(empty.map(|length| format!("{} at {}", FORMS[form], LENGTHS[length])));
         }
         missing.extend(self.notes.iter().filter(|note| note.1 == 0).map(|note| note.0.to_string()));
@@ -96,11 +96,13 @@ mod tests {
     #[test]
     fn what_was_never_seen_is_missing() {
         let mut seen = Seen::new(&["a note"]);
-        assert_eq!(seen.missing(&[0, 4], Forms::EachAtEachLength).len(), 2 + 55 + 1);
+        let forms = FORMS.len() * LENGTHS.len();
+        assert_eq!(seen.missing(&[0, 4], Forms::EachAtEachLength).len(), 2 + forms + 1);
         seen.reply(0);
         seen.note("a note");
-        (0..10).for_each(|form| seen.form(&[form, 0, 0, 0, 0, 0, 0, 0, 0], 128));
-        assert_eq!(seen.missing(&[0], Forms::Each), ["PFALSE"]);
+        let (last, others) = FORMS.split_last().expect("there are forms");
+        (0..others.len()).for_each(|form| seen.form(&[form as u8, 0, 0, 0, 0, 0, 0, 0, 0], 128));
+        assert_eq!(seen.missing(&[0], Forms::Each), [*last]);
         assert_eq!(seen.missing(&[], Forms::None).len(), 1); // a reply that the kind cannot give
     }
 

@@ -100,6 +100,39 @@ fn predicate(random: &mut Random, vl: u64) -> [u64; 4] {
     cut(words, vl)
 }
 
+/// What a predicate looks like.
+#[derive(Clone, Copy, PartialEq, Eq, Debug)]
+pub enum Shape {
+    Empty,
+    Full,
+    Dense,
+    FewBits,
+    /// Bits that are the lowest of an element wider than a byte: all of them, or any.
+    Elements,
+}
+
+pub const SHAPES: [Shape; 5] = [Shape::Empty, Shape::Full, Shape::Dense, Shape::FewBits, Shape::Elements];
+
+/// The predicate with every bit below PL set.
+pub fn full(vl: u64) -> [u64; 4] {
+    cut([u64::MAX; 4], vl)
+}
+
+/// A predicate of a shape.
+pub fn shaped(random: &mut Random, vl: u64, shape: Shape) -> [u64; 4] {
+    let dense = [(); 4].map(|()| random.next());
+    let elements = elements_of_size(1 + random.below(3));
+    let words = match shape {
+        Shape::Empty => [0; 4],
+        Shape::Full => full(vl),
+        Shape::Dense => dense,
+        Shape::FewBits => few_bits(random, vl),
+        Shape::Elements if random.one_in(2) => [elements; 4],
+        Shape::Elements => dense.map(|word| word & elements),
+    };
+    cut(words, vl)
+}
+
 /// The lowest bits of the elements of a size.
 fn elements_of_size(size: u64) -> u64 {
     [u64::MAX, 0x5555_5555_5555_5555, 0x1111_1111_1111_1111, 0x0101_0101_0101_0101][size as usize]

@@ -36,6 +36,7 @@ impl Kind for Steps {
         "CNTP counter above 0",
         "X31 named",
         "a register twice",
+        "SEL with S refused",
     ];
 
     fn numbers() -> impl Iterator<Item = u64> {
@@ -59,23 +60,31 @@ impl Kind for Steps {
     }
 
     fn compare((state, word): &(State, u32), seen: &mut Seen) -> Outcome {
-        let (reply, library) = boundary::step(state, *word);
-        let (lent_reply, lent) = boundary::step_lent(state, *word);
-        let mut second = state.clone();
-        let second_reply = model::step(&mut second, *word);
-        let mut differences = Differences::default();
-        differences.field("reply", reply, second_reply);
-        differences.state(&library, &second);
-        differences.field("reply, lent", lent_reply, second_reply);
-        differences.state(&lent, &second);
-        seen.reply(second_reply);
-        match second_reply {
-            0 => note_accepted(seen, state, &second, &decode(*word).expect("it was accepted")),
+        let (differences, reply, after) = by_either_way(state, *word);
+        seen.reply(reply);
+        match reply {
+            0 => note_accepted(seen, state, &after, &decode(*word).expect("it was accepted")),
+            1 => seen.note_if(instructions::is_left_out_word(*word), "SEL with S refused"),
             4 => note_illegal(seen, state, *word),
             _ => {}
         }
         differences.outcome()
     }
+}
+
+/// The library's step in place and its lent one against the second program's: what differs, and the second program's
+/// reply and state.
+pub fn by_either_way(state: &State, word: u32) -> (Differences, u8, State) {
+    let (reply, library) = boundary::step(state, word);
+    let (lent_reply, lent) = boundary::step_lent(state, word);
+    let mut second = state.clone();
+    let second_reply = model::step(&mut second, word);
+    let mut differences = Differences::default();
+    differences.field("reply", reply, second_reply);
+    differences.state(&library, &second);
+    differences.field("reply, lent", lent_reply, second_reply);
+    differences.state(&lent, &second);
+    (differences, second_reply, second)
 }
 
 fn note_illegal(seen: &mut Seen, state: &State, word: u32) {
@@ -129,7 +138,7 @@ fn note_registers(seen: &mut Seen, row: &Row) {
     let mut twice = false;
     for width in [4, 5] {
         let fields: Vec<u8> = wide(width).collect();
-        twice |= fields.len() == 2 && fields[0] == fields[1];
+        twice |= (1..fields.len()).any(|i| fields[..i].contains(&fields[i]));
     }
     seen.note_if(wide(5).any(|field| field == 31), "X31 named");
     seen.note_if(twice, "a register twice");

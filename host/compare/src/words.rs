@@ -4,7 +4,7 @@ use crate::boundary;
 use crate::differences::{show_word, Differences, Outcome};
 use crate::kind::{Forms, Kind};
 use crate::seen::Seen;
-use compare::instructions::{self, WIDTHS};
+use compare::instructions::{self, FORMS, LOGIC, WIDTHS};
 use compare::random::Random;
 use model::Row;
 use plokamyr::{Form, Reply};
@@ -51,7 +51,7 @@ impl Kind for Words {
     const NAME: &'static str = "words";
     const REPLIES: &'static [u8] = &[0, 1];
     const FORMS: Forms = Forms::Each;
-    const NOTES: &'static [&'static str] = &["outside 25xxxxxx"];
+    const NOTES: &'static [&'static str] = &["outside 25xxxxxx", "SEL with S refused"];
 
     fn numbers() -> impl Iterator<Item = u64> {
         0..OURS + OTHERS
@@ -83,6 +83,7 @@ impl Kind for Words {
             differences.field("row", row, [CANARY; 9]);
             differences.field("the wrapper's row", plokamyr::decode(word), Err(Reply::UnknownWord));
             seen.reply(1);
+            seen.note_if(instructions::is_left_out_word(word), "SEL with S refused");
             return differences.outcome();
         };
         differences.field("reply", reply, 0);
@@ -104,11 +105,13 @@ fn wrapped(row: &Row) -> plokamyr::Row {
 }
 
 /// First every place after the form of every form with all 256 values, the others in range: the fields, and the places
-/// after them. Then every form from 0 to 255. Then any rows.
+/// after them. Then every form from 0 to 255. Then predicate logic with all its operations, those left out too. Then any
+/// rows.
 pub struct Rows;
 
-const PLACES: u64 = 11 * 8 * 256;
+const PLACES: u64 = FORMS.len() as u64 * 8 * 256;
 const ALL_FORMS: u64 = 256 * 40;
+const OPERATIONS: u64 = 16 * 100;
 const ANY: u64 = 500_000;
 
 impl Kind for Rows {
@@ -117,10 +120,10 @@ impl Kind for Rows {
     const REPLIES: &'static [u8] = &[0, 9];
     const FORMS: Forms = Forms::Each;
     const NOTES: &'static [&'static str] =
-        &["a field at its limit", "a field past it", "junk after the fields", "no such form"];
+        &["a field at its limit", "a field past it", "junk after the fields", "no such form", "SEL with S refused"];
 
     fn numbers() -> impl Iterator<Item = u64> {
-        0..PLACES + ALL_FORMS + ANY
+        0..PLACES + ALL_FORMS + OPERATIONS + ANY
     }
 
     fn make(seed: u64, number: u64) -> Row {
@@ -130,10 +133,12 @@ impl Kind for Rows {
             row[1 + number as usize / 256 % 8] = number as u8;
             return row;
         }
-        let form = random.index(11);
+        let form = random.index(FORMS.len());
         let mut row = instructions::row(random, form);
         if number < PLACES + ALL_FORMS {
             row[0] = (number - PLACES) as u8;
+        } else if number < PLACES + ALL_FORMS + OPERATIONS {
+            row = operation(random, number);
         } else if random.one_in(2) {
             row[random.index(9)] = random.next() as u8;
         } else {
@@ -159,17 +164,26 @@ impl Kind for Rows {
             seen.form(row, ANY_LENGTH);
         }
         seen.reply(if second.is_some() { 0 } else { 9 });
-        note(seen, row);
+        note(seen, row, second.is_none());
         differences.outcome()
     }
 }
 
-fn note(seen: &mut Seen, row: &Row) {
+/// Predicate logic with op, S, o2 and o3 by the number's lowest bits, and any registers.
+fn operation(random: &mut Random, number: u64) -> Row {
+    let [pm, pg, pn, pd] = [(); 4].map(|()| random.below(16) as u8);
+    let [op, s, o2, o3] = [3, 2, 1, 0].map(|bit| (number >> bit & 1) as u8);
+    [LOGIC, op, s, pm, pg, o2, pn, o3, pd]
+}
+
+fn note(seen: &mut Seen, row: &Row, refused: bool) {
     let Some(widths) = WIDTHS.get(usize::from(row[0])) else {
         return seen.note("no such form");
     };
     let fields = row[1..].iter().zip(*widths).map(|(&field, &width)| (u32::from(field), 1 << width));
     seen.note_if(fields.clone().any(|(field, end)| field + 1 == end), "a field at its limit");
     seen.note_if(fields.clone().any(|(field, end)| field == end), "a field past it");
+    let in_range = fields.clone().all(|(field, end)| field < end);
+    seen.note_if(refused && in_range && instructions::is_left_out(row), "SEL with S refused");
     seen.note_if(row[1 + widths.len()..].iter().any(|&number| number != 0), "junk after the fields");
 }

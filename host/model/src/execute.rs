@@ -20,6 +20,7 @@ pub fn execute(state: &mut State, row: &Row) {
         [PFIRST, pg, pdn, ..] => pfirst(state, pg, pdn),
         [PTEST, pg, pn, ..] => ptest(state, pg, pn),
         [PFALSE, pd, ..] => pfalse(state, pd),
+        [LOGIC, op, s, pm, pg, o2, pn, o3, pd] => logic(state, [op, o2, o3], s == 1, pm, pg, pn, pd),
         _ => unreachable!("no row has such a form"),
     }
 }
@@ -172,9 +173,40 @@ fn pfalse(state: &mut State, d: u8) {
     state.write_p(d, BYTES, &vec![false; state.elements(BYTES)]);
 }
 
+fn logic(state: &mut State, operation: Operation, sets_flags: bool, m: u8, g: u8, n: u8, d: u8) {
+    let mask = state.read_p(g, BYTES);
+    let operand1 = state.read_p(n, BYTES);
+    let operand2 = state.read_p(m, BYTES);
+    let mut result = Vec::new();
+    for e in 0..state.elements(BYTES) {
+        result.push(logic_element(operation, mask[e], operand1[e], operand2[e]));
+    }
+    if sets_flags {
+        state.flags = pred_test(&mask, &result);
+    }
+    state.write_p(d, BYTES, &result);
+}
+
+/// "Where Pg is false the result is false, except SEL, which takes Pm there and Pn elsewhere".
+fn logic_element(operation: Operation, g: bool, n: bool, m: bool) -> bool {
+    match operation {
+        SEL if g => n,
+        SEL => m,
+        _ if !g => false,
+        AND => n && m,
+        BIC => n && !m,
+        EOR => n != m,
+        ORR => n || m,
+        ORN => n || !m,
+        NOR => !(n || m),
+        NAND => !(n && m),
+        _ => unreachable!("op, o2 and o3 have one bit each"),
+    }
+}
+
 // ---- what they share ----
 
-/// The size of PFIRST, PTEST and PFALSE, where each bit of a predicate is an element.
+/// The size of PFIRST, PTEST, PFALSE and predicate logic, where each bit of a predicate is an element.
 const BYTES: u8 = 0;
 
 /// The operand's width by sf.

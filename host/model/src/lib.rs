@@ -1,6 +1,6 @@
 //! The second program: a plain model of the predicate part of an Arm SVE interpreter.
 //!
-//! Written from document 01 and Arm's pages alone, element by element as the pseudocode goes. It is there to be
+//! Written from documents 01 and 02 and Arm's pages alone, element by element as the pseudocode goes. It is there to be
 //! compared with, so it must be easy to check by reading: nothing in it is cleverer than the paper's sentence for it.
 #![forbid(unsafe_code)]
 

@@ -9,7 +9,7 @@ pub const IMAGE_CUT: u8 = 5;
 pub const NOT_ALLOWED: u8 = 6;
 pub const TRAILING_BYTES: u8 = 7;
 pub const BUFFER_TOO_SMALL: u8 = 8;
-// 9, a field past its range, is the None of `encode`.
+// 9, a field past its range or SEL with S = 1, is the None of `encode`.
 pub const BAD_WALK_REGISTERS: u8 = 10;
 pub const LIST_TOO_SHORT: u8 = 11;
 pub const BUDGET_SPENT: u8 = 12;

@@ -16,9 +16,10 @@ pub const PNEXT: u8 = 7;
 pub const PFIRST: u8 = 8;
 pub const PTEST: u8 = 9;
 pub const PFALSE: u8 = 10;
+pub const LOGIC: u8 = 11;
 
 /// The bits of each form from 31 down: digits where fixed, else the name and width of a field; a bare name has one bit.
-const TABLE: [&str; 11] = [
+const TABLE: [&str; 12] = [
     "00100101 size:2 1 Rm:5 000 sf U lt Rn:5 eq Pd:4",
     "00100101 size:2 1 Rm:5 0101 U lt Rn:5 1 Pd:3 eq",
     "00100101 size:2 1 Rm:5 01 vl 0 U lt Rn:5 1 eq PNd:3",
@@ -31,7 +32,29 @@ const TABLE: [&str; 11] = [
     "0010 0101 0101 1000 1100 000 Pg:4 0 Pdn:4",
     "0010 0101 0101 0000 11 Pg:4 0 Pn:4 00000",
     "0010 0101 0001 1000 1110 0100 0000 Pd:4",
+    // request K1
+    "00100101 op S 00 Pm:4 01 Pg:4 o2 Pn:4 o3 Pd:4",
 ];
+
+/// The operations of predicate logic by op, o2, o3.
+pub type Operation = [u8; 3];
+
+pub const AND: Operation = [0, 0, 0];
+pub const BIC: Operation = [0, 0, 1];
+pub const EOR: Operation = [0, 1, 0];
+pub const SEL: Operation = [0, 1, 1];
+pub const ORR: Operation = [1, 0, 0];
+pub const ORN: Operation = [1, 0, 1];
+pub const NOR: Operation = [1, 1, 0];
+pub const NAND: Operation = [1, 1, 1];
+
+/// "SEL with S=1 is not ours": the one combination of fields that a form leaves out.
+fn is_left_out(row: &Row) -> bool {
+    match *row {
+        [LOGIC, op, s, _pm, _pg, o2, _pn, o3, _pd] => [op, o2, o3] == SEL && s == 1,
+        _ => false,
+    }
+}
 
 /// The column "Level" of the paper's table.
 pub fn level(row: &Row) -> u8 {
@@ -53,11 +76,18 @@ pub fn decode(word: u32) -> Option<Row> {
     for (i, field) in layouts()[form].fields.iter().enumerate() {
         row[1 + i] = field.read(word);
     }
+    if is_left_out(&row) {
+        return None;
+    }
     Some(row)
 }
 
-/// The word of a row; None (reply 9) if its form or a field is past its range, or if it has a number after its fields.
+/// The word of a row; None (reply 9) if its form or a field is past its range, if it has a number after its fields, or
+/// if its form leaves it out.
 pub fn encode(row: &Row) -> Option<u32> {
+    if is_left_out(row) {
+        return None;
+    }
     let layout = layouts().get(usize::from(row[0]))?;
     let mut word = layout.fixed;
     for (i, &number) in row[1..].iter().enumerate() {

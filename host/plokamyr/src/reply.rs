@@ -51,7 +51,7 @@ pub enum Reply {
     TrailingBytes,
     /// 8: the buffer for an image, or the list for its words.
     BufferTooSmall,
-    /// 9: the instruction to be written has a field past its range.
+    /// 9: the instruction to be written has a field past its range, or is SEL with S = 1.
     FieldPastRange,
     /// 10: an X past 31, a P past 15, a size past 3, n = 31, n = m, or d = k.
     BadWalkRegisters,
@@ -102,7 +102,7 @@ impl Reply {
             Reply::NotAllowed => (6, "count or byte of an image is not allowed"),
             Reply::TrailingBytes => (7, "image goes on after its last section"),
             Reply::BufferTooSmall => (8, "buffer or list is too small"),
-            Reply::FieldPastRange => (9, "field of an instruction is past its range"),
+            Reply::FieldPastRange => (9, "field of an instruction is past its range, or it is SEL with S = 1"),
             Reply::BadWalkRegisters => (10, "register or size of a walk is not allowed"),
             Reply::ListTooShort => (11, "list has fewer places than there are positions to visit"),
             Reply::BudgetSpent => (12, "budget is spent before the walk has ended"),

@@ -20,7 +20,7 @@ use crate::{ffi, Reply};
 /// # fn writes_x(form: Form) -> bool {
 /// match form {
 ///     Saturating | IncDec | Cntp | CntpCounter => true,
-///     WhileOne | WhilePair | WhileCounter | Pnext | Pfirst | Ptest | Pfalse => false,
+///     WhileOne | WhilePair | WhileCounter | Pnext | Pfirst | Ptest | Pfalse | Logic => false,
 ///     Other(_) => false,
 /// }
 /// # }
@@ -50,6 +50,9 @@ pub enum Form {
     Ptest,
     /// 10.
     Pfalse,
+    /// 11: by op, o2, o3 AND, BIC, EOR, SEL, ORR, ORN, NOR, NAND, from 000 to 111. S is 1 if it sets the flags, which SEL
+    /// cannot: SEL with S = 1 is no instruction.
+    Logic,
     /// A number that has no name here. [`Form::from_number`] gives it for no other.
     Other(u8),
 }
@@ -68,6 +71,7 @@ impl Form {
         Form::Pfirst,
         Form::Ptest,
         Form::Pfalse,
+        Form::Logic,
     ];
 
     /// The form of a number.
@@ -98,6 +102,7 @@ impl Form {
             Form::Pfirst => (8, &["Pg", "Pdn"]),
             Form::Ptest => (9, &["Pg", "Pn"]),
             Form::Pfalse => (10, &["Pd"]),
+            Form::Logic => (11, &["op", "S", "Pm", "Pg", "o2", "Pn", "o3", "Pd"]),
             Form::Other(number) => (number, &[]),
         }
     }
@@ -130,7 +135,7 @@ impl Row {
     }
 }
 
-/// Reads a word as an instruction. Refusal: 1.
+/// Reads a word as an instruction. Refusal: 1, also for SEL with S = 1.
 ///
 /// ```
 /// use plokamyr::{decode, Form, Reply};
@@ -147,8 +152,8 @@ pub fn decode(word: u32) -> Result<Row, Reply> {
     }
 }
 
-/// Writes an instruction as a word. Refusal: 9, for a form that the library does not have, a field past its range, or one
-/// other than 0 after the form's own.
+/// Writes an instruction as a word. Refusal: 9, for a form that the library does not have, a field past its range, one
+/// other than 0 after the form's own, or a combination of fields that the form leaves out, which is SEL with S = 1 alone.
 ///
 /// ```
 /// use plokamyr::{encode, Form, Reply, Row};
@@ -156,6 +161,9 @@ pub fn decode(word: u32) -> Result<Row, Reply> {
 /// let pfalse = |pd| Row::new(Form::Pfalse, &[pd]).unwrap();
 /// assert_eq!(encode(pfalse(3)), Ok(0x2518_E403));
 /// assert_eq!(encode(pfalse(16)), Err(Reply::FieldPastRange));
+/// let sel = |s| Row::new(Form::Logic, &[0, s, 3, 1, 1, 2, 1, 0]).unwrap();
+/// assert_eq!(encode(sel(0)), Ok(0x2503_4650)); // SEL p0.b, p1, p2.b, p3.b
+/// assert_eq!(encode(sel(1)), Err(Reply::FieldPastRange));
 /// ```
 pub fn encode(row: Row) -> Result<u32, Reply> {
     let mut word = 0;
@@ -182,7 +190,7 @@ mod tests {
 
     #[test]
     fn a_form_without_a_name_keeps_its_number_and_fields() {
-        for number in [11, 12, 255] {
+        for number in [12, 13, 255] {
             let raw = [number, 1, 2, 3, 4, 5, 6, 7, 8];
             let row = row_of(raw);
             assert_eq!(row, Row { form: Form::Other(number), fields: [1, 2, 3, 4, 5, 6, 7, 8] });

@@ -1,6 +1,6 @@
 //! What `docs/FORMAT.md` says in tables and hex, held to the library and to an example.
 
-use plokamyr::{encode, read, text, Form, Reply, Row, State, WORDS_MAX};
+use plokamyr::{encode, read, text, Form, Predicate, Reply, Row, State, WORDS_MAX};
 use std::fs;
 use std::path::PathBuf;
 
@@ -110,6 +110,41 @@ fn words() {
             let level = row[4].parse().unwrap_or(if largest { 1 } else { 2 }); // WHILE_ONE's, by lt
             assert_eq!(State::new(128, level).step(word), Reply::Done, "{form:?}");
             assert_eq!(State::new(128, level - 1).step(word), Reply::LevelTooLow, "{form:?}");
+        }
+    }
+}
+
+/// A bit of the result, from Pg, Pn and Pm.
+type Operation = fn(bool, bool, bool) -> bool;
+
+const OPERATIONS: [(&str, Operation); 8] = [
+    ("000 AND", |g, n, m| g && n && m),
+    ("001 BIC", |g, n, m| g && n && !m),
+    ("010 EOR", |g, n, m| g && n != m),
+    ("011 SEL", |g, n, m| if g { n } else { m }),
+    ("100 ORR", |g, n, m| g && (n || m)),
+    ("101 ORN", |g, n, m| g && (n || !m)),
+    ("110 NOR", |g, n, m| g && !(n || m)),
+    ("111 NAND", |g, n, m| g && !(n && m)),
+];
+
+/// The list of op, o2, o3 with their names, in the document and in the header; and that each does what its name says.
+#[test]
+fn operations() {
+    let list = OPERATIONS.map(|(entry, _)| entry).join(", ");
+    for name in ["docs/FORMAT.md", "include/plokamyr.h"] {
+        assert!(String::from_utf8(file(name)).expect("text").contains(&list), "{name}");
+    }
+    for (entry, result) in OPERATIONS {
+        let bits: Vec<u8> = entry.bytes().take(3).map(|digit| digit - b'0').collect();
+        let row = Row::new(Form::Logic, &[bits[0], 0, 3, 1, bits[1], 2, bits[2], 4]).expect("the form's own fields");
+        let mut state = State::new(128, 1);
+        let combinations = [0xF0, 0xCC, 0xAA].map(Predicate::from); // all of three bits, and none above
+        state.p[1..4].copy_from_slice(&combinations);
+        assert_eq!(state.step(encode(row).expect("each has a word without S")), Reply::Done);
+        for bit in 0..16 {
+            let [g, n, m] = combinations.map(|p| p.bit(bit));
+            assert_eq!(state.p[4].bit(bit), result(g, n, m), "{entry}, {bit}");
         }
     }
 }

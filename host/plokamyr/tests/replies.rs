@@ -161,9 +161,21 @@ fn words() {
     assert_eq!(encode(more), Err(Reply::FieldPastRange));
 }
 
+/// Both ways, and when it is executed; without S it is an instruction.
+#[test]
+fn sel_with_s() {
+    let (sel, sel_with_s) = (0x2503_4650, 0x2543_4650); // p0.b, p1, p2.b, p3.b
+    let row = |s| Row::new(Form::Logic, &[0, s, 3, 1, 1, 2, 1, 0]).unwrap();
+    assert_eq!((decode(sel), encode(row(0))), (Ok(row(0)), Ok(sel)));
+    assert_eq!((decode(sel_with_s), encode(row(1))), (Err(Reply::UnknownWord), Err(Reply::FieldPastRange)));
+    expect_refused(&state(), sel_with_s, Reply::UnknownWord);
+    expect_no_run(&state(), &[sel_with_s, sel], Reply::Done, Reply::UnknownWord);
+    assert_eq!(state().step(sel), Reply::Done);
+}
+
 #[test]
 fn a_form_without_a_name() {
-    for number in [11, 12, 255] {
+    for number in [12, 13, 255] {
         let form = Form::from_number(number);
         assert_eq!((form, form.number()), (Form::Other(number), number));
         assert!(form.field_names().is_empty() && Row::new(form, &[]).is_none());

@@ -14,6 +14,8 @@ const IMAGES: u64 = 150;
 const WALKS: u64 = 150;
 const LARGEST: usize = 700_000;
 
+const LEFT_OUT: &str = "runs stopped by SEL with S";
+
 const RUN: u8 = 1;
 const IMAGE: u8 = 2;
 const WALK: u8 = 3;
@@ -79,6 +81,7 @@ fn expected() -> Vec<String> {
     }
     list.extend([0, 1, 2, 3].map(|level| format!("runs at level {level}")));
     list.extend([0, 1, 2, 3].map(stopped_by));
+    list.push(LEFT_OUT.to_string());
     list.extend([0, 5, 6, 7].map(|reply| reply_of(IMAGE, reply)));
     list.extend([0, 2, 3, 10, 11, 12].map(|reply| reply_of(WALK, reply)));
     list
@@ -109,7 +112,7 @@ fn run(file: &mut File, random: &mut Random, number: u64) {
     state.level = if number % 10 < 3 { (number % 10) as u8 } else { 3 };
     let count = if state.access { 1 + random.below(12) } else { 1 + random.below(2) };
     let count = if state.level == 0 { count.min(2) } else { count };
-    let words: Vec<u32> = (0..count).map(|at| word(random, state.level, 12 * number + at)).collect();
+    let words: Vec<u32> = (0..count).map(|at| word(random, state.level, number + at)).collect();
     for &word in words.iter().rev() {
         instructions::tie(random, &mut state, word);
     }
@@ -122,6 +125,9 @@ fn run(file: &mut File, random: &mut Random, number: u64) {
     file.record(RUN, &rest);
     file.executed += ran.done as u64;
     file.see(stopped_by(ran.refused));
+    if words.get(ran.done).is_some_and(|&word| instructions::is_left_out_word(word)) {
+        file.see(LEFT_OUT.to_string());
+    }
     file.see(format!("runs at level {}", state.level));
     for &word in &words[..ran.done] {
         let row = model::decode(word).expect("it was executed");
@@ -134,7 +140,7 @@ fn word(random: &mut Random, level: u8, turn: u64) -> u32 {
     if random.one_in(60) {
         return instructions::doubtful(random);
     }
-    let form = (turn % 11) as usize;
+    let form = turn as usize % instructions::FORMS.len();
     let asks_three = matches!(form, 1 | 2 | 6);
     if asks_three && level < 3 && !random.one_in(8) {
         instructions::word_of(random, 7)
