@@ -2,7 +2,7 @@
 use Prim.Native.Nat.{ℕ, suc, _<_, _%_, _^_}
 use lib.ListN.{length, getD, drop}
 use mathlib.Core.Path.{_≡_, refl, sym, ap, ap₂, _∙_}
-use mathlib.Core.Bool.{Bool, true, false, _&&_}
+use mathlib.Core.Bool.{Bool, true, false, _&&_, false≢true}
 use mathlib.Core.List.{List, [], _∷_}
 use mathlib.Core.Logic.{_↔_, _⊎_, inl, inr}
 use native.Mathlib.Nat.{mod-eq-of-lt}
@@ -16,7 +16,7 @@ use Rattle.words.specs.declared.Decoded.the-variants as Dec
 use Rattle.words.specs.declared.Encoded.{Encoded}
 use Rattle.words.specs.declared.Encoded.the-variants as Enc
 use Rattle.words.proofs.Codec.{both, and-pair, place-cut, cut-fits, matches-place, cut-place}
-use Rattle.words.proofs.Table.{finds, word-wide, well-formed, reads-matches}
+use Rattle.words.proofs.Table.{finds, word-wide, well-formed, reads-matches, one-layout}
 use Rattle.words.proofs.Fields.{build-fields, read-back, number-lt}
 use Rattle.words.proofs.Reading.{tested, hit, skip, none}
 
@@ -101,10 +101,17 @@ encode-decode w i h e =
 
 -- no two forms share a word
 pub one-form : (m n w : ℕ) → m < length forms → n < length forms → reads (formAt m) w ≡ true → reads (formAt n) w ≡ true → m ≡ n
-one-form m n w a b h k =
-    let p : Dec.Ours (instructionIn (formAt m) w) ≡ Dec.Ours (instructionIn (formAt n) w) = finds m w a h ∙ sym (finds n w b k) in
-    let q : instructionIn (formAt m) w ≡ instructionIn (formAt n) w = cc in
-    ap (λ (ns : List ℕ). getD ns 0 0) (sym (read-back m w a) ∙ ap numbersOf q ∙ read-back n w b)
+one-form m n w a b h k = one-layout m n w a b (reads-matches (formAt m) w h) (reads-matches (formAt n) w k)
+
+-- a word with a form's fixed bits, and with fields that the form leaves out, is refused
+pub left-out-read : (n w : ℕ) → n < length forms → matches (formAt n .layout) w ≡ true → formAt n .allowed (cut (formAt n .layout) w) ≡ false → decodeOf w ≡ Dec.Refused (refusal w)
+left-out-read n w l h a = go (outcome forms w)
+  where
+    go : Outcome forms w → decodeOf w ≡ Dec.Refused (refusal w)
+    go (inl (k, b, r, p)) =
+        let e : k ≡ n = one-layout k n w b l (reads-matches (formAt k) w r) h in
+        absurd (false≢true (sym (ap (λ (x : Bool). x && matches (formAt n .layout) w) a) ∙ sym (ap (λ (i : ℕ). reads (formAt i) w) e) ∙ r))
+    go (inr p) = p
 
 -- a word is refused exactly when it is the word of no instruction whose fields are within their ranges
 pub refused-read : (w : ℕ) → w < 2 ^ 32 → (decodeOf w ≡ Dec.Refused (refusal w)) ↔ ((i : Instruction) → inRange i ≡ true → wordOf i ≡ w → ⊥)

@@ -62,22 +62,38 @@ not-both : (b : Bool) → (b ≡ true → ⊥) → b ≡ false
 not-both true h = absurd (h refl)
 not-both false h = refl
 
+-- the first layout shares no word with a later one
+first-apart : (g : Form) (gs : List Form) (n w : ℕ) → pairwise (g ∷ gs) ≡ true → n < length gs → matches (g .layout) w ≡ true → matches (getD gs n pfalseForm .layout) w ≡ true → ⊥
+first-apart g gs n w c l h k =
+    let (a, _) = both (every (λ (j : Form). clash (g .layout) (j .layout) 32) gs) (pairwise gs) c in
+    apart (g .layout) (getD gs n pfalseForm .layout) 32 w (every-in (λ (j : Form). clash (g .layout) (j .layout) 32) gs pfalseForm n a l) h k
+
+rest-pairwise : (g : Form) (gs : List Form) → pairwise (g ∷ gs) ≡ true → pairwise gs ≡ true
+rest-pairwise g gs c = both (every (λ (j : Form). clash (g .layout) (j .layout) 32) gs) (pairwise gs) c .1
+
 finds-in : (fs : List Form) (n w : ℕ) → pairwise fs ≡ true → n < length fs → reads (getD fs n pfalseForm) w ≡ true → Ours (instructionIn (getD fs n pfalseForm) w) ≡ readBy fs w
 finds-in [] n w c l h = absurd (omega arith)
 finds-in (g ∷ gs) zero w c l h = hit g gs w (sym (tested g w)) h refl
 finds-in (g ∷ gs) (suc n) w c l h =
-    let (a, r) = both (every (λ (k : Form). clash (g .layout) (k .layout) 32) gs) (pairwise gs) c in
-    let m : n < length gs = omega arith in
     skip g gs w (sym (tested g w))
-    (not-both (reads g w)
-    (λ k.
-    apart (g .layout) (getD gs n pfalseForm .layout) 32 w (every-in (λ (j : Form). clash (g .layout) (j .layout) 32) gs pfalseForm n a m)
-    (reads-matches g w k) (reads-matches (getD gs n pfalseForm) w h)))
-    (finds-in gs n w r m h)
+    (not-both (reads g w) (λ k. first-apart g gs n w c (omega arith) (reads-matches g w k) (reads-matches (getD gs n pfalseForm) w h)))
+    (finds-in gs n w (rest-pairwise g gs c) (omega arith) h)
 
 -- a word of a form is read as that form
 pub finds : (n w : ℕ) → n < length forms → reads (formAt n) w ≡ true → Ours (instructionIn (formAt n) w) ≡ decodeOf w
 finds n w l h = finds-in forms n w all-apart l h
+
+-- no two layouts share a word
+one-in : (fs : List Form) (m n w : ℕ) → pairwise fs ≡ true → m < length fs → n < length fs → matches (getD fs m pfalseForm .layout) w ≡ true
+    → matches (getD fs n pfalseForm .layout) w ≡ true → m ≡ n
+one-in [] m n w c a b h k = absurd (omega arith)
+one-in (g ∷ gs) zero zero w c a b h k = refl
+one-in (g ∷ gs) zero (suc n) w c a b h k = absurd (first-apart g gs n w c (omega arith) h k)
+one-in (g ∷ gs) (suc m) zero w c a b h k = absurd (first-apart g gs m w c (omega arith) k h)
+one-in (g ∷ gs) (suc m) (suc n) w c a b h k = ap suc (one-in gs m n w (rest-pairwise g gs c) (omega arith) (omega arith) h k)
+
+pub one-layout : (m n w : ℕ) → m < length forms → n < length forms → matches (formAt m .layout) w ≡ true → matches (formAt n .layout) w ≡ true → m ≡ n
+one-layout m n w a b h k = one-in forms m n w all-apart a b h k
 
 -- a list without its element at k, and what holds of all that is left
 abbrev without : ℕ → List Form → List Form
