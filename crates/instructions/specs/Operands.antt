@@ -23,7 +23,7 @@ secondTargetOf (Pair pd) = 2 * pd + 1
 secondTargetOf (Counter four pnd) = none
 
 -- read: Rn, Rm; Pg (PNEXT's Pv too), Pn (a Pdn too), Pm. Written: Rd, Pd, the second of a pair, and whether the flags are:
--- PFALSE and everything that writes X keep them
+-- PFALSE, logic without S and everything that writes X keep them
 abbrev pub registersOf : Instruction → Registers
 registersOf (While c u t size rn rm) = record { rn = rn; rm = rm; pg = none; pn = none; pm = none; rd = none; pd = targetOf t; pd2 = secondTargetOf t; flags = true }
 registersOf (Saturating d u sf size pm rdn) = record { rn = rdn; rm = none; pg = none; pn = none; pm = pm; rd = rdn; pd = none; pd2 = none; flags = false }

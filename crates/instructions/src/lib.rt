@@ -1,5 +1,5 @@
 // What each instruction does: which registers it names, and what it gives from the values of those that it reads and the vector length.
-// An effect is values alone: `registers_of` says where they are written, so that an instruction touches nothing else. PFALSE and everything that writes X keep the flags.
+// An effect is values alone: `registers_of` says where they are written, so that an instruction touches nothing else. PFALSE, logic without S and everything that writes X keep the flags.
 ghost use mathlib.Core.Path.{_≡_};
 ghost use Rattle.instructions.specs.Effect.{computed};
 ghost use Rattle.instructions.specs.Instructions.{whileOf, computeOf};

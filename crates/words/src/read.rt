@@ -271,6 +271,7 @@ fn read_pfalse(w: u32) -> Instruction
     }
 }
 
+// The bits op, o2 and o3 as one number.
 fn operation_bits(w: u32) -> u32
     ensures { λ r. ⌜ r ≡ operationBits (slice 23 1 w) (slice 9 1 w) (slice 4 1 w) ⌝ }
 {
