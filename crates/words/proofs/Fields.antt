@@ -11,7 +11,7 @@ use Rattle.bits.specs.Choice.{pick, digit}
 use Rattle.bits.specs.Size.{shift}
 use Rattle.bits.specs.declared.Size.{Size}
 use Rattle.bits.specs.declared.Size.the-variants as Sz
-use Rattle.words.specs.Layout.{slice, cut}
+use Rattle.words.specs.Layout.{slice, cut, from}
 use Rattle.words.specs.Words.{forms, formAt, numbersOf, flag, sizeOf, conditionOf, eqBit, operationBits, operationOf, operationNumber, formOf, fieldsOf, instructionIn, levelOf}
 use Rattle.scalars.specs.While.{upward}
 use Rattle.scalars.specs.declared.Condition.{Condition}
@@ -51,13 +51,13 @@ operation-bits Nand = refl
 
 ruleset building = (flag-digit, size-shift, condition-bits, operation-bits)
 
-build-while : (c : Condition) (u : Bool) (t : Target) (s : Size) (rn rm : ℕ) → formOf (While c u t s rn rm) .build (fieldsOf (While c u t s rn rm)) ≡ While c u t s rn rm
+build-while : (c : Condition) (u : Bool) (t : Target) (s : Size) (rn rm : ℕ) → from (formOf (While c u t s rn rm) .build) (fieldsOf (While c u t s rn rm)) ≡ While c u t s rn rm
 build-while c u (One w pd) s rn rm = simp building
 build-while c u (Pair pd) s rn rm = simp building
 build-while c u (Counter f pnd) s rn rm = simp building
 
 -- an instruction is built from its fields
-pub build-fields : (i : Instruction) → formOf i .build (fieldsOf i) ≡ i
+pub build-fields : (i : Instruction) → from (formOf i .build) (fieldsOf i) ≡ i
 build-fields (While c u t s rn rm) = build-while c u t s rn rm
 build-fields (Saturating d u w s pm rdn) = simp building
 build-fields (IncDec d s pm rdn) = simp building
@@ -170,6 +170,9 @@ number-lt (Pfalse pd) = omega arith
 number-lt (Logic o s pm pg pn pd) = omega arith
 
 -- the level of an instruction that is known by its form, and of a WHILE that is known by its target
+pub level-is : {i j : Instruction} {n : ℕ} → i ≡ j → n ≡ levelOf j → n ≡ levelOf i
+level-is e h = h ∙ sym (ap levelOf e)
+
 pub level-as : {i : Instruction} {c : Condition} {u : Bool} {t v : Target} {s : Size} {rn rm n : ℕ} → i ≡ While c u t s rn rm → t ≡ v → n ≡ levelOf (While c u v s rn rm) → n ≡ levelOf i
 level-as {c = c} {u = u} {s = s} {rn = rn} {rm = rm} e f h = h ∙ sym (ap levelOf e ∙ ap (λ (x : Target). levelOf (While c u x s rn rm)) f)
 

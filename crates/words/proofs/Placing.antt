@@ -14,7 +14,7 @@ use lib.Seq.{drop-cons}
 use borrow.Author.Tests.{le-ltb, lt-ltb, not-true, not-false}
 use Rattle.bits.specs.Choice.{pick}
 use Rattle.replies.specs.declared.Reply.the-variants.{FieldPastRange}
-use Rattle.words.specs.Layout.{Piece, span, fits, place, upTo}
+use Rattle.words.specs.Layout.{Piece, span, fits, place, upTo, from}
 use Rattle.words.specs.Layout.Piece.{fixed, field}
 use Rattle.words.specs.Words.{Form, pfalseForm, forms, formAt}
 use Rattle.words.specs.Rows.{rowLayout, writtenIn, encodedAs}
@@ -188,7 +188,7 @@ module _ (row : List ℕ) where
   pub past-forms : length forms ≤ getD row 0 0 → Refused FieldPastRange ≡ encodedAs row
   past-forms h = sym (by-form (le-ltb (getD row 0 0) (length forms) h))
 
-  module _ {a : Bool} (e : a ≡ f .allowed xs) (h : getD row 0 0 < length forms) where
+  module _ {a : Bool} (e : a ≡ from (f .allowed) xs) (h : getD row 0 0 < length forms) where
     by-fields : {b : Bool} → (a && fits (rowLayout f) xs) ≡ b → encodedAs row ≡ pick b (Word (place (rowLayout f) xs)) (Refused FieldPastRange)
     by-fields q =
         by-form (lt-ltb (getD row 0 0) (length forms) h)

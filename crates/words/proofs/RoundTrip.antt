@@ -9,7 +9,7 @@ use native.Mathlib.Nat.{mod-eq-of-lt}
 use native.Mathlib.Omega.{arith}
 use Rattle.bits.specs.Choice.{pick}
 use Rattle.replies.specs.declared.Reply.the-variants.{FieldPastRange}
-use Rattle.words.specs.Layout.{matches, cut, fits, place}
+use Rattle.words.specs.Layout.{matches, cut, fits, place, from}
 use Rattle.words.specs.Words.{Form, pfalseForm, forms, formAt, numbersOf, fieldsOf, reads, instructionIn, refusal, readBy, decodeOf, wordOf, inRange, encodeOf}
 use Rattle.words.specs.declared.Instruction.{Instruction}
 use Rattle.words.specs.declared.Decoded.the-variants as Dec
@@ -25,10 +25,10 @@ pub read-written : (i : Instruction) → inRange i ≡ true → decodeOf (wordOf
 read-written i h =
     let n : ℕ = getD (numbersOf i) 0 0 in
     let f : Form = formAt n in
-    let (a, r) = both (f .allowed (fieldsOf i)) (fits (f .layout) (fieldsOf i)) h in
+    let (a, r) = both (from (f .allowed) (fieldsOf i)) (fits (f .layout) (fieldsOf i)) h in
     let c : cut (f .layout) (wordOf i) ≡ fieldsOf i = cut-place (f .layout) (fieldsOf i) (well-formed n) r in
-    sym (finds n (wordOf i) (number-lt i) (and-pair (ap (f .allowed) c ∙ a) (matches-place (f .layout) (fieldsOf i) (well-formed n) r)))
-    ∙ ap Dec.Ours (ap (f .build) c ∙ build-fields i)
+    sym (finds n (wordOf i) (number-lt i) (and-pair (ap (from (f .allowed)) c ∙ a) (matches-place (f .layout) (fieldsOf i) (well-formed n) r)))
+    ∙ ap Dec.Ours (ap (from (f .build)) c ∙ build-fields i)
 
 -- a word is read by a form that it is a word of, or gets the one refusal
 abbrev Outcome : List Form → ℕ → Type 0
@@ -44,12 +44,12 @@ outcome [] w = inr (sym (none w))
 outcome (f ∷ fs) w = outcome-more f fs w (reads f w) refl (outcome fs w)
 
 abbrev rangeOf : List ℕ → Bool
-rangeOf ns = formAt (getD ns 0 0) .allowed (drop 1 ns) && fits (formAt (getD ns 0 0) .layout) (drop 1 ns)
+rangeOf ns = from (formAt (getD ns 0 0) .allowed) (drop 1 ns) && fits (formAt (getD ns 0 0) .layout) (drop 1 ns)
 
 in-range-read : (n w : ℕ) → n < length forms → reads (formAt n) w ≡ true → inRange (instructionIn (formAt n) w) ≡ true
 in-range-read n w l h =
     ap rangeOf (read-back n w l)
-    ∙ and-pair (both (formAt n .allowed (cut (formAt n .layout) w)) (matches (formAt n .layout) w) h .0) (cut-fits (formAt n .layout) w)
+    ∙ and-pair (both (from (formAt n .allowed) (cut (formAt n .layout) w)) (matches (formAt n .layout) w) h .0) (cut-fits (formAt n .layout) w)
 
 word-read : (n w : ℕ) → n < length forms → w < 2 ^ 32 → reads (formAt n) w ≡ true → wordOf (instructionIn (formAt n) w) ≡ w
 word-read n w l h m =
@@ -104,7 +104,7 @@ pub one-form : (m n w : ℕ) → m < length forms → n < length forms → reads
 one-form m n w a b h k = one-layout m n w a b (reads-matches (formAt m) w h) (reads-matches (formAt n) w k)
 
 -- a word with a form's fixed bits, and with fields that the form leaves out, is refused
-pub left-out-read : (n w : ℕ) → n < length forms → matches (formAt n .layout) w ≡ true → formAt n .allowed (cut (formAt n .layout) w) ≡ false → decodeOf w ≡ Dec.Refused (refusal w)
+pub left-out-read : (n w : ℕ) → n < length forms → matches (formAt n .layout) w ≡ true → from (formAt n .allowed) (cut (formAt n .layout) w) ≡ false → decodeOf w ≡ Dec.Refused (refusal w)
 left-out-read n w l h a = go (outcome forms w)
   where
     go : Outcome forms w → decodeOf w ≡ Dec.Refused (refusal w)

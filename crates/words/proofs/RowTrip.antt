@@ -3,26 +3,23 @@ use Prim.Native.Nat.{ℕ, zero, suc, _<_, _/_, _^_}
 use mathlib.Core.Path.{_≡_, refl, sym, ap, ap₂, _∙_}
 use mathlib.Core.Bool.{Bool, true, _&&_}
 use mathlib.Core.List.{List, [], _∷_}
-use native.Mathlib.Decide.{ℕ-discrete}
 use native.Mathlib.Nat.{mod-one}
 use native.Mathlib.Omega.{arith}
 use lib.Dec.{ltb, eqb}
 use lib.ListN.{length, getD, drop}
 use borrow.Author.Tests.{ltb-true}
-use Rattle.words.specs.Layout.{Piece, span, slice, matches, cut, fits, place, upTo, Takes, given}
+use Rattle.words.specs.Layout.{Piece, span, slice, matches, cut, fits, place, upTo, Takes, FromFields, applied, from}
 use Rattle.words.specs.Layout.Piece.{fixed, field}
-use Rattle.words.specs.Words.{flag, operationBits, hasLogic, forms, formAt, instructionIn, decodeOf}
+use Rattle.words.specs.Words.{forms, formAt, numbersOf, formOf, fieldsOf, instructionIn, decodeOf}
 use Rattle.words.specs.Rows.{padded, rowOf, rowLayout, writtenIn, encodedAs, replyTo, rowAfter, decodedReply, decodedRow, replyWith, wordAfter, encodedReply, encodedWord}
-use Rattle.words.specs.declared.Target.the-variants.{One, Pair, Counter}
 use Rattle.words.specs.declared.Instruction.{Instruction}
-use Rattle.words.specs.declared.Instruction.the-variants.{While, Saturating, IncDec, Cntp, CntpCounter, Pnext, Pfirst, Ptest, Pfalse, Logic}
 use Rattle.words.specs.declared.Decoded.{Decoded}
 use Rattle.words.specs.declared.Decoded.the-variants as Dec
 use Rattle.words.specs.declared.Encoded.{Encoded}
 use Rattle.words.specs.declared.Encoded.the-variants as Enc
 use Rattle.words.proofs.Codec.{both, and-pair, matches-place, cut-place}
 use Rattle.words.proofs.Placing.{span-upTo, row-formed}
-use Rattle.words.proofs.Table.{others-allowed, finds}
+use Rattle.words.proofs.Table.{finds}
 use Rattle.words.proofs.Fields.{build-fields, read-back}
 use Rattle.words.proofs.RoundTrip.{taken, encode-decode}
 use Rattle.words.proofs.Rows.{row-encoded}
@@ -40,19 +37,15 @@ cut-upTo (suc n) [] w = ap₂ (λ (x : ℕ) (xs : List ℕ). x ∷ xs) (mod-one 
 cut-upTo (suc n) (fixed k v ∷ ps) w = cut-upTo (suc n) ps w
 cut-upTo (suc n) (field k ∷ ps) w = ap₂ (λ (s : ℕ) (xs : List ℕ). slice s k w ∷ xs) (span-upTo n ps) (cut-upTo n ps w)
 
--- a function of fields takes a missing one for a zero
-given-padded : {A : Type 0} (n m : ℕ) (f : Takes n A) (xs : List ℕ) → given n f (padded m xs) ≡ given n f xs
-given-padded zero m f xs = refl
-given-padded (suc n) zero f xs = refl
-given-padded (suc n) (suc m) f [] = given-padded n m (f 0) []
-given-padded (suc n) (suc m) f (x ∷ xs) = given-padded n m (f x) xs
+-- nor do zeros after the fields change what is made of them
+applied-padded : {A : Type 0} (n m : ℕ) (f : Takes n A) (xs : List ℕ) → applied n f (padded m xs) ≡ applied n f xs
+applied-padded zero m f xs = refl
+applied-padded (suc n) zero f xs = refl
+applied-padded (suc n) (suc m) f [] = applied-padded n m (f 0) []
+applied-padded (suc n) (suc m) f (x ∷ xs) = applied-padded n m (f x) xs
 
--- so zeros after the fields do not change whether a form has a word
-padded-allowed : (n : ℕ) (xs : List ℕ) → formAt n .allowed (padded 8 xs) ≡ formAt n .allowed xs
-padded-allowed n xs = elim (ℕ-discrete n 11) [
-  | yes e ↦ ap (λ (k : ℕ). formAt k .allowed (padded 8 xs)) e ∙ given-padded 8 8 (λ op s pm pg o2 pn o3 pd. hasLogic (operationBits op o2 o3) (flag s)) xs ∙ sym (ap (λ (k : ℕ). formAt k .allowed xs) e)
-  | no h ↦ sym (others-allowed n (padded 8 xs) h) ∙ others-allowed n xs h
-]
+from-padded : {A : Type 0} (g : FromFields A) (m : ℕ) (xs : List ℕ) → from g (padded m xs) ≡ from g xs
+from-padded g m xs = applied-padded (g .count) m (g .takes) xs
 
 -- a word that is ours, read as a row, is written back as that word
 pub word-back : (w : ℕ) (i : Instruction) (word : ℕ) → w < 2 ^ 32 → decodeOf w ≡ Dec.Ours i → (encodedReply (rowOf i) ≡ 0) × (encodedWord (rowOf i) word ≡ w)
@@ -61,29 +54,29 @@ word-back w i word h e =
     (ap replyWith p, ap (λ (x : Encoded). wordAfter x word) p)
 
 -- an instruction's row builds it
-pub row-instruction : (i : Instruction) → formAt (getD (rowOf i) 0 0) .build (drop 1 (rowOf i)) ≡ i
-row-instruction (While c u (One w pd) s rn rm) = build-fields (While c u (One w pd) s rn rm)
-row-instruction (While c u (Pair pd) s rn rm) = build-fields (While c u (Pair pd) s rn rm)
-row-instruction (While c u (Counter f pnd) s rn rm) = build-fields (While c u (Counter f pnd) s rn rm)
-row-instruction (Saturating d u w s pm rdn) = build-fields (Saturating d u w s pm rdn)
-row-instruction (IncDec d s pm rdn) = build-fields (IncDec d s pm rdn)
-row-instruction (Cntp s pg pn rd) = build-fields (Cntp s pg pn rd)
-row-instruction (CntpCounter f s pnn rd) = build-fields (CntpCounter f s pnn rd)
-row-instruction (Pnext s pv pdn) = build-fields (Pnext s pv pdn)
-row-instruction (Pfirst pg pdn) = refl
-row-instruction (Ptest pg pn) = refl
-row-instruction (Pfalse pd) = refl
-row-instruction (Logic o s pm pg pn pd) = build-fields (Logic o s pm pg pn pd)
+first-padded : (m : ℕ) (xs : List ℕ) → getD (padded m xs) 0 0 ≡ getD xs 0 0
+first-padded zero xs = refl
+first-padded (suc m) [] = refl
+first-padded (suc m) (x ∷ xs) = refl
+
+rest-padded : (m : ℕ) (xs : List ℕ) → drop 1 (padded (suc m) xs) ≡ padded m (drop 1 xs)
+rest-padded m [] = refl
+rest-padded m (x ∷ xs) = refl
+
+pub row-instruction : (i : Instruction) → from (formAt (getD (rowOf i) 0 0) .build) (drop 1 (rowOf i)) ≡ i
+row-instruction i =
+    ap₂ (λ (n : ℕ) (xs : List ℕ). from (formAt n .build) xs) (first-padded 9 (numbersOf i)) (rest-padded 8 (numbersOf i))
+    ∙ from-padded (formOf i .build) 8 (fieldsOf i) ∙ build-fields i
 
 -- a row that fits is the row of what its word is read as
-row-read : (n : ℕ) (xs : List ℕ) → n < length forms → formAt n .allowed xs ≡ true → fits (rowLayout (formAt n)) xs ≡ true
+row-read : (n : ℕ) (xs : List ℕ) → n < length forms → from (formAt n .allowed) xs ≡ true → fits (rowLayout (formAt n)) xs ≡ true
     → (i : Instruction) × (decodeOf (place (rowLayout (formAt n)) xs) ≡ Dec.Ours i) × (rowOf i ≡ n ∷ xs)
 row-read n xs h a f =
     let ps : List Piece = formAt n .layout in
     let w : ℕ = place (rowLayout (formAt n)) xs in
     let m : matches ps w ≡ true = sym (matches-upTo 8 ps w) ∙ matches-place (rowLayout (formAt n)) xs (row-formed n) f in
     let e : padded 8 (cut ps w) ≡ xs = sym (cut-upTo 8 ps w) ∙ cut-place (rowLayout (formAt n)) xs (row-formed n) f in
-    let b : formAt n .allowed (cut ps w) ≡ true = sym (padded-allowed n (cut ps w)) ∙ ap (formAt n .allowed) e ∙ a in (
+    let b : from (formAt n .allowed) (cut ps w) ≡ true = sym (from-padded (formAt n .allowed) 8 (cut ps w)) ∙ ap (from (formAt n .allowed)) e ∙ a in (
       instructionIn (formAt n) w,
       sym (finds n w h (and-pair b m)),
       ap (padded 9) (read-back n w h) ∙ ap (λ (ys : List ℕ). n ∷ ys) e,
@@ -97,9 +90,9 @@ row-back [] w old e =
     absurd (omega arith)
 row-back (n ∷ xs) w old e =
     let (l, c) = taken (ltb n (length forms)) (writtenIn (formAt n) xs) w e in
-    let (t, u) = taken (formAt n .allowed xs && fits (rowLayout (formAt n)) xs) (Enc.Word (place (rowLayout (formAt n)) xs)) w c in
+    let (t, u) = taken (from (formAt n .allowed) xs && fits (rowLayout (formAt n)) xs) (Enc.Word (place (rowLayout (formAt n)) xs)) w c in
     let v : place (rowLayout (formAt n)) xs ≡ w = cc in
-    let (a, f) = both (formAt n .allowed xs) (fits (rowLayout (formAt n)) xs) t in
+    let (a, f) = both (from (formAt n .allowed) xs) (fits (rowLayout (formAt n)) xs) t in
     let (i, p, q) = row-read n xs (ltb-true n (length forms) l) a f in
     let d : decodeOf w ≡ Dec.Ours i = ap decodeOf (sym v) ∙ p in
     (ap replyTo d, ap (λ (x : Decoded). rowAfter x old) d ∙ q)

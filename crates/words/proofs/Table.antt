@@ -8,8 +8,8 @@ use lib.ListN.{length, getD, drop}
 use lib.Seq.{getD-drop}
 use lib.Dec.{eqb}
 use borrow.Author.Tests.{eqb-true}
-use Rattle.words.specs.Layout.{span, matches, cut}
-use Rattle.words.specs.Words.{flag, hasLogic, Form, pfalseForm, forms, formAt, reads, instructionIn, readBy, decodeOf}
+use Rattle.words.specs.Layout.{span, matches, cut, from}
+use Rattle.words.specs.Words.{flag, logicHasWord, Form, pfalseForm, forms, formAt, reads, instructionIn, readBy, decodeOf}
 use Rattle.words.specs.declared.Decoded.the-variants.{Ours}
 use Rattle.words.proofs.Codec.{both, wellFormed}
 use Rattle.words.proofs.Clash.{clash, apart}
@@ -56,7 +56,7 @@ well-formed n = is-whole n .1
 
 -- a word of a form matches its layout
 pub reads-matches : (f : Form) (w : ℕ) → reads f w ≡ true → matches (f .layout) w ≡ true
-reads-matches f w h = both (f .allowed (cut (f .layout) w)) (matches (f .layout) w) h .1
+reads-matches f w h = both (from (f .allowed) (cut (f .layout) w)) (matches (f .layout) w) h .1
 
 not-both : (b : Bool) → (b ≡ true → ⊥) → b ≡ false
 not-both true h = absurd (h refl)
@@ -109,10 +109,10 @@ every-other p (g ∷ gs) d (suc k) zero h e l = both (p g) (every p (without k g
 every-other p (g ∷ gs) d (suc k) (suc n) h e l = every-other p gs d k n (both (p g) (every p (without k gs)) h .1) e (λ q. l (ap suc q))
 
 -- every form but logic's has a word with any fields
-pub others-allowed : (n : ℕ) (xs : List ℕ) → (n ≡ 11 → ⊥) → true ≡ formAt n .allowed xs
-others-allowed n xs h = sym (every-other (λ (f : Form). f .allowed xs) forms pfalseForm 11 n refl refl h)
+pub others-allowed : (n : ℕ) (xs : List ℕ) → (n ≡ 11 → ⊥) → true ≡ from (formAt n .allowed) xs
+others-allowed n xs h = sym (every-other (λ (f : Form). from (f .allowed) xs) forms pfalseForm 11 n refl refl h)
 
 -- logic has a word with those that leave SEL and S = 1 apart
-pub logic-allowed : (n : ℕ) (row : List ℕ) {a b d : ℕ} {t : Bool} → n ≡ 11 → a ≡ getD row 1 0 → b ≡ getD row 5 0 → d ≡ getD row 7 0 → t ≡ hasLogic (a * 4 + b * 2 + d) (flag (getD row 2 0))
-    → t ≡ formAt n .allowed (drop 1 row)
+pub logic-allowed : (n : ℕ) (row : List ℕ) {a b d : ℕ} {t : Bool} → n ≡ 11 → a ≡ getD row 1 0 → b ≡ getD row 5 0 → d ≡ getD row 7 0 → t ≡ logicHasWord (a * 4 + b * 2 + d) (flag (getD row 2 0))
+    → t ≡ from (formAt n .allowed) (drop 1 row)
 logic-allowed n row e ha hb hd ht = ht ∙ rw (e, ha, hb, hd) (sym (simp getD-drop))

@@ -3,7 +3,7 @@ use Prim.Native.Nat.{ℕ}
 use mathlib.Core.Bool.{Bool, _&&_}
 use mathlib.Core.List.{List, [], _∷_}
 use lib.Dec.{eqb}
-use Rattle.words.specs.Layout.{Piece, span, slice, cut, place}
+use Rattle.words.specs.Layout.{Piece, span, slice, cut, place, from}
 use Rattle.words.specs.Layout.Piece.{fixed, field}
 use Rattle.words.specs.Words.{Form}
 use Rattle.words.specs.declared.write.Places.{Places}
@@ -16,7 +16,7 @@ matchesAfter b (field n ∷ ps) w = matchesAfter b ps w
 
 -- w is a word of the form
 abbrev pub tests : Form → ℕ → Bool
-tests f w = matchesAfter (f .allowed (cut (f .layout) w)) (f .layout) w
+tests f w = matchesAfter (from (f .allowed) (cut (f .layout) w)) (f .layout) w
 
 -- the lowest bit and the width of each field, from the highest down
 abbrev pub lows : List Piece → List ℕ

@@ -58,14 +58,26 @@ upTo (suc n) [] = field 0 ∷ upTo n []
 upTo (suc n) (fixed k v ∷ ps) = fixed k v ∷ upTo (suc n) ps
 upTo (suc n) (field k ∷ ps) = field k ∷ upTo n ps
 
--- a function of n fields, and what it gives for the fields xs; one that asks none of them
+-- a function of n fields
 abbrev pub Takes : ℕ → Type 0 → Type 0
 Takes zero A = A
 Takes (suc n) A = ℕ → Takes n A
 
-abbrev pub given : {A : Type 0} (n : ℕ) → Takes n A → List ℕ → A
-given zero f xs = f
-given (suc n) f xs = given n (f (getD xs 0 0)) (drop 1 xs)
+-- what is made of a form's fields: a function of the first ones, or the same whatever they are
+pub record FromFields (A : Type 0) : Type 0 where
+  pub count : ℕ
+  pub takes : Takes count A
 
-abbrev pub always : {A : Type 0} → A → List ℕ → A
-always a xs = a
+abbrev pub given : {A : Type 0} (n : ℕ) → Takes n A → FromFields A
+given n f = record { count = n; takes = f }
+
+abbrev pub always : {A : Type 0} → A → FromFields A
+always a = given 0 a
+
+-- and what that is for the fields xs; one that is missing counts as 0
+abbrev pub applied : {A : Type 0} (n : ℕ) → Takes n A → List ℕ → A
+applied zero f xs = f
+applied (suc n) f xs = applied n (f (getD xs 0 0)) (drop 1 xs)
+
+abbrev pub from : {A : Type 0} → FromFields A → List ℕ → A
+from m xs = applied (m .count) (m .takes) xs

@@ -7,7 +7,7 @@ use lib.ListN.{length, getD, drop}
 use Rattle.bits.specs.Choice.{pick}
 use Rattle.replies.specs.Reply.{numberOf}
 use Rattle.replies.specs.declared.Reply.the-variants.{FieldPastRange}
-use Rattle.words.specs.Layout.{Piece, fits, place, upTo}
+use Rattle.words.specs.Layout.{Piece, fits, place, upTo, from}
 use Rattle.words.specs.Words.{Form, forms, formAt, numbersOf, decodeOf}
 use Rattle.words.specs.declared.Instruction.{Instruction}
 use Rattle.words.specs.declared.Decoded.{Decoded}
@@ -31,7 +31,7 @@ rowLayout f = upTo 8 (f .layout)
 
 -- how eight numbers are written as the fields of a form
 abbrev pub writtenIn : Form → List ℕ → Encoded
-writtenIn f xs = pick (f .allowed xs && fits (rowLayout f) xs) (Word (place (rowLayout f) xs)) (Refused FieldPastRange)
+writtenIn f xs = pick (from (f .allowed) xs && fits (rowLayout f) xs) (Word (place (rowLayout f) xs)) (Refused FieldPastRange)
 
 -- how a row is written: as the form that its first number is, if it is one of the table
 abbrev pub encodedAs : List ℕ → Encoded

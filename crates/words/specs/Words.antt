@@ -10,7 +10,7 @@ use Rattle.bits.specs.declared.Size.{Size}
 use Rattle.bits.specs.declared.Size.the-variants as Sz
 use Rattle.replies.specs.declared.Reply.{Reply}
 use Rattle.replies.specs.declared.Reply.the-variants.{UnknownWord, FieldPastRange}
-use Rattle.words.specs.Layout.{Piece, upper, matches, cut, fits, place, given, always}
+use Rattle.words.specs.Layout.{Piece, upper, matches, cut, fits, place, FromFields, given, always, from}
 use Rattle.words.specs.Layout.Piece.{fixed}
 use Rattle.words.specs.Fields.{opcode, size, sf, U, lt, eq, D, vl, op, S, o2, o3, Rm, Rn, Rd, Rdn, Pd, Pg, Pm, Pn, Pv, Pdn, PNd, PNn}
 use Rattle.scalars.specs.While.{upward}
@@ -73,9 +73,9 @@ operationNumber Nand = 0b111
 -- a form: what its bits are; by its fields, the level that it asks, whether it has a word with them, and the instruction that they build
 pub record Form : Type 0 where
   pub layout : List Piece
-  pub level : List ℕ → ℕ
-  pub allowed : List ℕ → Bool
-  pub build : List ℕ → Instruction
+  pub level : FromFields ℕ
+  pub allowed : FromFields Bool
+  pub build : FromFields Instruction
 
 abbrev pub whileOneForm : Form
 whileOneForm = record {
@@ -167,14 +167,14 @@ pfalseForm = record {
 }
 
 -- SEL with S = 1 is left out
-abbrev pub hasLogic : ℕ → Bool → Bool
-hasLogic bits s = not (eqb bits 0b011 && s)
+abbrev pub logicHasWord : ℕ → Bool → Bool
+logicHasWord bits s = not (eqb bits 0b011 && s)
 
 abbrev pub logicForm : Form
 logicForm = record {
   layout = opcode ∷ op ∷ S ∷ fixed 2 0b00 ∷ Pm 4 ∷ fixed 2 0b01 ∷ Pg 4 ∷ o2 ∷ Pn 4 ∷ o3 ∷ Pd 4 ∷ [];
   level = always 1;
-  allowed = given 8 (λ op s pm pg o2 pn o3 pd. hasLogic (operationBits op o2 o3) (flag s));
+  allowed = given 8 (λ op s pm pg o2 pn o3 pd. logicHasWord (operationBits op o2 o3) (flag s));
   build = given 8 (λ op s pm pg o2 pn o3 pd. Logic (operationOf (operationBits op o2 o3)) (flag s) pm pg pn pd);
 }
 
@@ -214,10 +214,10 @@ fieldsOf i = drop 1 (numbersOf i)
 
 -- w is a word of the form, and the instruction that it is then
 abbrev pub reads : Form → ℕ → Bool
-reads f w = f .allowed (cut (f .layout) w) && matches (f .layout) w
+reads f w = from (f .allowed) (cut (f .layout) w) && matches (f .layout) w
 
 abbrev pub instructionIn : Form → ℕ → Instruction
-instructionIn f w = f .build (cut (f .layout) w)
+instructionIn f w = from (f .build) (cut (f .layout) w)
 
 -- the reply to a word that is not ours
 abbrev pub refusal : ℕ → Reply
@@ -237,7 +237,7 @@ abbrev pub wordOf : Instruction → ℕ
 wordOf i = place (formOf i .layout) (fieldsOf i)
 
 abbrev pub inRange : Instruction → Bool
-inRange i = formOf i .allowed (fieldsOf i) && fits (formOf i .layout) (fieldsOf i)
+inRange i = from (formOf i .allowed) (fieldsOf i) && fits (formOf i .layout) (fieldsOf i)
 
 -- how an instruction is written
 unfoldable pub encodeOf : Instruction → Encoded
@@ -245,4 +245,4 @@ encodeOf i = pick (inRange i) (Enc.Word (wordOf i)) (Enc.Refused FieldPastRange)
 
 -- the level that an instruction asks
 abbrev pub levelOf : Instruction → ℕ
-levelOf i = formOf i .level (fieldsOf i)
+levelOf i = from (formOf i .level) (fieldsOf i)

@@ -6,7 +6,7 @@ use bits::Size;
 use replies::Reply;
 use scalars::Condition;
 ghost use mathlib.Core.Path.{_≡_};
-ghost use Rattle.words.specs.Words.{levelOf, hasLogic};
+ghost use Rattle.words.specs.Words.{levelOf, logicHasWord};
 
 mod read;
 mod row;
@@ -112,8 +112,8 @@ pub enum Encoded {
 }
 
 // Whether logic has a word for an operation, given as op, o2 and o3 in one number: SEL has none that sets flags.
-fn has_logic(operation: u32, flags: bool) -> bool
-    ensures { λ r. ⌜ r ≡ hasLogic operation flags ⌝ }
+fn logic_has_word(operation: u32, flags: bool) -> bool
+    ensures { λ r. ⌜ r ≡ logicHasWord operation flags ⌝ }
 {
     !((operation == 0b011) & flags)
 }

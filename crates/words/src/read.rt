@@ -281,7 +281,7 @@ fn operation_bits(w: u32) -> u32
 fn is_logic(w: u32) -> bool
     ensures { λ r. ⌜ r ≡ tests logicForm w ⌝ }
 {
-    super::has_logic(operation_bits(w), (w >> 22) % 2 == 1)
+    super::logic_has_word(operation_bits(w), (w >> 22) % 2 == 1)
         & ((w >> 24) % 256 == 0b00100101)
         & ((w >> 20) % 4 == 0b00)
         & ((w >> 14) % 4 == 0b01)

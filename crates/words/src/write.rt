@@ -7,6 +7,7 @@ ghost use mathlib.Core.Path.{_≡_};
 ghost use Prim.Native.Nat.{_*_, _^_, _<_, _≤_};
 ghost use lib.Dec.{ltb};
 ghost use lib.ListN.{length, drop};
+ghost use Rattle.words.specs.Layout.{from};
 ghost use Rattle.words.specs.Words.{forms, formAt, encodeOf};
 ghost use Rattle.words.specs.Rows.{encodedAs, rowLayout};
 ghost use Rattle.words.specs.Inside.{placesOf};
@@ -109,13 +110,13 @@ const LOGIC: usize = 11;
 
 // Whether a form has a word with the fields of a row: logic leaves out SEL with S = 1.
 fn is_allowed(form: usize, row: [u8; 9]) -> bool
-    ensures { λ r. ⌜ r ≡ formAt form .allowed (drop 1 row) ⌝ }
+    ensures { λ r. ⌜ r ≡ from (formAt form .allowed) (drop 1 row) ⌝ }
 {
     if form != LOGIC {
         return true;
     }
     let bits = wide(row[1]) * 4 + wide(row[5]) * 2 + wide(row[7]);
-    super::has_logic(bits, row[2] == 1)
+    super::logic_has_word(bits, row[2] == 1)
 }
 
 fn wide(x: u8) -> u32

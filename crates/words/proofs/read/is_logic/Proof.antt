@@ -4,7 +4,7 @@ use mathlib.Core.Bool.{Bool, _&&_}
 use mathlib.Core.Path.{ap, _∙_}
 use lib.Dec.{eqb}
 use Rattle.words.specs.Layout.{slice}
-use Rattle.words.specs.Words.{flag, hasLogic}
+use Rattle.words.specs.Words.{flag, logicHasWord}
 use borrow.Author.Needs.{needs}
 use Rattle.words.proofs.read.is_logic.Statement.{statement}
 use Rattle.words.proofs.read.is_logic.Tie as tie
@@ -12,14 +12,14 @@ use Rattle.words.proofs.read.is_logic.Tie as tie
 operation-bits-requires : tie.Need-operation-bits-requires
 operation-bits-requires c κs = search needs
 
-has-logic-requires : tie.Need-has-logic-requires
-has-logic-requires c κs = search needs
+logic-has-word-requires : tie.Need-logic-has-word-requires
+logic-has-word-requires c κs = search needs
 
 returns : tie.Need-returns
 returns c =
     let w = c .before .before .args .w in
     ap (λ (b : Bool). b && eqb (slice 24 8 w) 0b00100101 && eqb (slice 20 2 w) 0b00 && eqb (slice 14 2 w) 0b01)
-    (c .has-logic .ensures ∙ ap (λ (n : ℕ). hasLogic n (flag (slice 22 1 w))) (c .before .operation-bits .ensures))
+    (c .logic-has-word .ensures ∙ ap (λ (n : ℕ). logicHasWord n (flag (slice 22 1 w))) (c .before .operation-bits .ensures))
 
 pub is-logic-spec : {M : Type 1} → statement M
-is-logic-spec = tie.close (tie.spec operation-bits-requires has-logic-requires returns)
+is-logic-spec = tie.close (tie.spec operation-bits-requires logic-has-word-requires returns)

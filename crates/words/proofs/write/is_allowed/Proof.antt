@@ -37,11 +37,11 @@ wide-requires-3 c κs = search needs
 add-bits-2 : tie.Need-add-bits-2
 add-bits-2 c = search needs
 
-array-read-has-logic : tie.Need-array-read-has-logic
-array-read-has-logic c = search needs
+array-read-logic-has-word : tie.Need-array-read-logic-has-word
+array-read-logic-has-word c = search needs
 
-has-logic-requires : tie.Need-has-logic-requires
-has-logic-requires c κs = search needs
+logic-has-word-requires : tie.Need-logic-has-word-requires
+logic-has-word-requires c κs = search needs
 
 returns-2 : tie.Need-returns-2
 returns-2 c = search (logic-allowed, needs) depth 9
@@ -61,6 +61,6 @@ is-allowed-spec =
     array-read-wide-3
     wide-requires-3
     add-bits-2
-    array-read-has-logic
-    has-logic-requires
+    array-read-logic-has-word
+    logic-has-word-requires
     returns-2)
