@@ -1,10 +1,12 @@
-/* Every refusal that each function can give, in its order, and that it leaves all as it was; nulls, empty lists, numbers past their range. */
+/* Every refusal that each function can give, in its order, and that it leaves all as it was; nulls, empty lists, numbers past their range;
+ * counters with bits past their count. */
 #include "check.h"
 
 enum {
     PFALSE = 0x2518E400,        /* p0: level 1 */
     WHILEGE = 0x25201000,       /* p0.b, x0, x0: level 2 */
     WHILE_COUNTER = 0x25204010, /* level 3 */
+    CNTP_COUNTER = 0x25208700,  /* x0, pn8.b, four vectors: level 3 */
     AND = 0x25044861,           /* p1.b, p2/z, p3.b, p4.b: level 1 */
     SEL = 0x25034650,           /* p0.b, p1, p2.b, p3.b: level 1 */
     SETS_FLAGS = 0x00400000     /* S of a word of predicate logic; SEL has no form with it */
@@ -102,6 +104,34 @@ static void steps_agree(void) {
             s.p[at % 16].words[0] |= mixed(at + 1) & live(lengths[i], 0); /* PFALSE must not leave all empty */
             s = both_steps(&s, fixed[at % KINDS] | ((uint32_t)mixed(at + 2) & drawn[at % KINDS]), PLOKAMYR_DONE);
         }
+    }
+}
+
+/* ---- counters */
+
+/* What CNTP of bytes over four vectors answers of a counter; it writes nothing else. */
+static uint64_t counted(uint64_t vl, uint64_t counter) {
+    struct plokamyr_state s = sample(vl);
+    s.p[8] = (struct plokamyr_predicate){{counter}};
+    struct plokamyr_state after = both_steps(&s, CNTP_COUNTER, PLOKAMYR_DONE);
+    s.x[0] = after.x[0];
+    CHECK(same_state(&after, &s));
+    return after.x[0];
+}
+
+/* The count ends at the highest set bit of 4 PL, which is vl / 2; a group of four vectors has as many bytes. */
+static void counters_read(void) {
+    CHECK(counted(128, 0x0081) == 0);
+    CHECK(counted(256, 0x0081) == 64);
+    CHECK(counted(128, 0x8081) == 64);
+    for (int i = 0; i < 5; i++) {
+        uint64_t vl = lengths[i], last = vl / 2, past = 0x8000 - vl; /* all bits from the one after the last to 14 */
+        CHECK(counted(vl, last | 1) == vl / 4);
+        CHECK(counted(vl, 2 * last | 1) == 0);
+        CHECK(counted(vl, past | last | 1) == vl / 4);
+        CHECK(counted(vl, past | 7) == 3);
+        CHECK(counted(vl, 0x8000 | past | 7) == vl / 2 - 3);
+        CHECK(counted(vl, 0x8000 | past) == 0);
     }
 }
 
@@ -607,6 +637,7 @@ static void words_edges(void) {
 int main(void) {
     step_refusals();
     steps_agree();
+    counters_read();
     run_refusals();
     run_stops();
     walk_registers();

@@ -1,7 +1,7 @@
 -- Laws of numbers made of bits. A word operation is the Boolean operation at each bit: one law over the operation. Assumes nothing.
 use mathlib.Core.Bool.{Bool, true, false, not, _&&_, _||_, Bool·beq}
 use mathlib.Core.Path.{_≡_, refl, sym, ap, ap₂, _∙_}
-use Prim.Native.Nat.{ℕ, zero, suc, _+_, _-_, _*_, _/_, _%_, _^_, _≤_, _<_, min}
+use Prim.Native.Nat.{ℕ, zero, suc, _+_, _-_, _*_, _/_, _%_, _^_, _≤_, _<_, zero-le, min}
 use native.Mathlib.Decide.{decLt}
 use native.Mathlib.Nat.{add-zero, add-suc, suc-add, pow-suc, pow-zero, pow-succ', div-div-eq-div-mul, div-one, zero-div, mod-eq-of-lt, mod-one, mod-lt}
 use native.Mathlib.Numerals.{add-one}
@@ -86,6 +86,15 @@ number-none f at (suc n) h =
 
 pub none-number : (f : ℕ → Bool) (at n : ℕ) → number f at n ≡ 0 → (i : ℕ) → i < n → f (at + i) ≡ false
 none-number f at n e i h = sym (testBit-number f at n i h) ∙ ap (λ (w : ℕ). testBit w i) e ∙ testBit-zero i
+
+-- bits that are not set above the first n change nothing
+pub number-padded : (f : ℕ → Bool) (at n m : ℕ) → n ≤ m → ((i : ℕ) → n ≤ i → i < m → f (at + i) ≡ false) → number f at m ≡ number f at n
+unfolding number
+number-padded f at zero m h z = number-none f at m (λ i l. z i zero-le l)
+number-padded f at (suc n) zero h z = absurd (omega arith)
+number-padded f at (suc n) (suc m) h z =
+    ap (λ (x : ℕ). x * 2 + digit (f at))
+    (number-padded f (suc at) n m (omega arith) (λ i a b. ap f (suc-add at i ∙ sym (add-suc at i)) ∙ z (suc i) (omega arith) (omega arith)))
 
 -- ---- word operations
 

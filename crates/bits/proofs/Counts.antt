@@ -1,8 +1,9 @@
 -- The processor's counts of a word's bits are searches among its bits. Assumes nothing.
 use mathlib.Core.Bool.{Bool, true, false}
 use mathlib.Core.Path.{_≡_, refl, sym, ap, ap₂, _∙_}
-use Prim.Native.Nat.{ℕ, zero, suc, _+_, _-_, _/_, _^_, _≤_, _<_}
-use native.Mathlib.Nat.{pow-suc, pow-succ', div-eq-of-lt, div-lt-iff-lt-mul, le-div-iff-mul-le, lt-of-lt-of-le}
+use Prim.Native.Nat.{ℕ, zero, suc, _+_, _-_, _/_, _^_, _≤_, _<_, zero-le}
+use native.Mathlib.Decide.{decLt}
+use native.Mathlib.Nat.{le-refl, pow-suc, pow-succ', div-eq-of-lt, div-lt-iff-lt-mul, le-div-iff-mul-le, lt-of-lt-of-le}
 use native.Mathlib.Numerals.{add-one}
 use native.Mathlib.Omega.{arith}
 use lib.Arith.{lt-one}
@@ -12,7 +13,7 @@ use Rattle.bits.specs.Bits.{testBit}
 use Rattle.bits.specs.Choice.{pick, digit}
 use Rattle.bits.specs.Search.{count, firstFrom, afterLast, scan}
 use Rattle.bits.proofs.Bits.{testBit-suc, testBit-low}
-use Rattle.bits.proofs.Searches.{count-low, count-cong, first-low, first-cong, last-is}
+use Rattle.bits.proofs.Searches.{never, count-low, count-cong, first-low, first-cong, last-found, last-is}
 
 half-lt : (w k : ℕ) → w < 2 ^ suc k → w / 2 < 2 ^ k
 half-lt w k h = shr-lt k 1 (rw (← add-one k) at h)
@@ -59,3 +60,26 @@ leading-last k w h =
       hit = λ e s. let d : m ≡ suc e = omega arith in
           top-bit w e (omega (arith, pow-suc 2 e, rw d at large)) (rw d at small);
     })
+
+-- the last bit of a number below 2 ^ m is below m
+pub last-within : (w m n : ℕ) → w < 2 ^ m → afterLast (testBit w) n ≤ m
+last-within w m n h = go (afterLast (testBit w) n) refl
+  where
+    go : (r : ℕ) → afterLast (testBit w) n ≡ r → r ≤ m
+    go zero s = zero-le
+    go (suc e) s = elim (decLt e m) [
+      | yes l ↦ l
+      | no l ↦ never (last-found (testBit w) n .hit e s) (above-none w m e h (omega arith))
+    ]
+
+-- 2 ^ e has its last bit at e
+pub last-of-power : (e n : ℕ) → e < n → afterLast (testBit (2 ^ e)) n ≡ suc e
+last-of-power e n h =
+    sym (last-is (testBit (2 ^ e)) n (suc e) (record {
+      upto = h;
+      none = λ b l m. above-none (2 ^ e) (suc e) b below l;
+      hit = λ b s. let d : e ≡ b = omega arith in ap (testBit (2 ^ e)) (sym d) ∙ top-bit (2 ^ e) e (le-refl (2 ^ e)) below;
+    }))
+  where
+    below : 2 ^ e < 2 ^ suc e
+    below = omega (arith, pow-suc 2 e, pow-pos e)

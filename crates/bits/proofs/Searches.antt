@@ -1,13 +1,15 @@
 -- Laws of the searches among the numbers below a bound. What `firstFrom` and `afterLast` find is stated once, as a record, and nothing else has it.
 -- Assumes nothing.
-use mathlib.Core.Bool.{Bool, true, false, _&&_, _||_}
+use mathlib.Core.Bool.{Bool, true, false, not, _&&_, _||_, and-true, and-false}
 use mathlib.Core.Logic.{⊎-elim}
 use mathlib.Core.Path.{_≡_, refl, sym, ap, ap₂, _∙_}
-use Prim.Native.Nat.{ℕ, zero, suc, _+_, _-_, _≤_, _<_, zero-le}
+use Prim.Native.Nat.{ℕ, zero, suc, _+_, _-_, _≤_, _<_, zero-le, min}
 use native.Mathlib.Decide.{decLt}
 use native.Mathlib.Nat.{add-zero, add-suc, eq-or-lt-of-le, le-refl}
 use native.Mathlib.Numerals.{add-one}
 use native.Mathlib.Omega.{arith}
+use lib.Dec.{ltb}
+use borrow.Author.Tests.{lt-ltb, le-ltb}
 use Rattle.bits.specs.Choice.{pick, digit}
 use Rattle.bits.specs.Search.{count, some, afterLast, scan, firstFrom}
 
@@ -56,6 +58,40 @@ pub count-end : (f : ℕ → Bool) (n m : ℕ) → n ≤ m → ((e : ℕ) → n 
 count-end f n m h z =
     let e : m ≡ n + (m - n) = omega arith in
     ap (count f) e ∙ count-add f n (m - n) ∙ ap (λ (x : ℕ). count f n + x) (count-none _ (m - n) (λ e l. z (n + e) (omega arith) (omega arith))) ∙ add-zero (count f n)
+
+pub count-mono : (f : ℕ → Bool) (n m : ℕ) → n ≤ m → count f n ≤ count f m
+count-mono f n m h = let e : m ≡ n + (m - n) = omega arith in omega (arith, ap (count f) e, count-add f n (m - n))
+
+-- ---- counts below a bound m, and not below it
+
+pub count-below : (f : ℕ → Bool) (m n : ℕ) → count (λ e. f e && ltb e m) n ≡ count f (min n m)
+count-below f m n =
+    elim (decLt m n) [
+      | yes l ↦
+          let least : min n m ≡ m = omega arith in
+          count-end (λ e. f e && ltb e m) m n (omega arith) (λ e a b. ap (λ (t : Bool). f e && t) (le-ltb e m a) ∙ and-false (f e))
+          ∙ under m (omega arith) ∙ ap (count f) (sym least)
+      | no l ↦
+          let least : min n m ≡ n = omega arith in
+          under n (omega arith) ∙ ap (count f) (sym least)
+    ]
+  where
+    under : (k : ℕ) → k ≤ m → count (λ e. f e && ltb e m) k ≡ count f k
+    under k h = count-cong _ _ k (λ e l. ap (λ (t : Bool). f e && t) (lt-ltb e m (omega arith)) ∙ and-true (f e))
+
+-- those that pass a second test, and those that do not
+count-apart : (f g : ℕ → Bool) (n : ℕ) → count (λ e. f e && g e) n + count (λ e. f e && not (g e)) n ≡ count f n
+unfolding count
+count-apart f g zero = refl
+count-apart f g (suc n) = omega (arith, count-apart f g n, one (f n) (g n))
+  where
+    one : (a b : Bool) → digit (a && b) + digit (a && not b) ≡ digit a
+    one true true = refl
+    one true false = refl
+    one false b = refl
+
+pub count-not-below : (f : ℕ → Bool) (m n : ℕ) → count (λ e. f e && not (ltb e m)) n ≡ count f n - count f (min n m)
+count-not-below f m n = omega (arith, count-apart f (λ e. ltb e m) n, count-below f m n)
 
 -- ---- whether some number passes
 

@@ -4,3 +4,4 @@ pub mod WhileLaws
 pub mod CounterLaws
 pub mod SearchLaws
 pub mod LogicLaws
+pub mod Readings

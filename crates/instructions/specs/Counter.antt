@@ -6,7 +6,7 @@ use mir.Syntax.{w64}
 use Rattle.bits.specs.declared.Size.{Size}
 use Rattle.bits.specs.Bits.{testBit, number}
 use Rattle.bits.specs.Choice.{pick, digit}
-use Rattle.bits.specs.Search.{count, firstFrom}
+use Rattle.bits.specs.Search.{count, firstFrom, afterLast}
 use Rattle.bits.specs.Size.{shift}
 use Rattle.predicates.specs.declared.Flags.{Flags}
 use Rattle.predicates.specs.declared.Predicate.{Predicate}
@@ -41,17 +41,23 @@ counterFlags up g n = record {
 abbrev pub markOf : Predicate → ℕ
 markOf p = firstFrom (bitAt p) 0 4
 
--- the count: every bit above the mark up to bit 14
-abbrev pub countAbove : ℕ → Predicate → ℕ
-countAbove j p = number (bitAt p) (suc j) (14 - j)
+-- the bit at which the count ends: the highest set bit of 4 PL
+unfoldable pub countEnd : ℕ → ℕ
+countEnd vl = afterLast (testBit (4 * predicateLength vl)) 64 - 1
 
--- of the 4 E elements of the mark's size those below the count, all flipped if bit 15 is set
-abbrev pub counterElement : ℕ → ℕ → Predicate → ℕ → Bool
-counterElement vl j p e = ltb e (4 * (predicateLength vl / 2 ^ j)) && pick (bitAt p 15) (not (ltb e (countAbove j p))) (ltb e (countAbove j p))
+-- the count: every bit above the mark j up to that one
+abbrev pub countAbove : ℕ → ℕ → Predicate → ℕ
+countAbove vl j p = number (bitAt p) (suc j) (countEnd vl - j)
 
--- the counter expanded: true at the lowest bit of each of those elements; no element if there is no mark
+-- of the 4 E elements of the mark's size those below the count n, all flipped if the counter is inverted
+abbrev pub counterElement : ℕ → ℕ → Bool → ℕ → ℕ → Bool
+counterElement vl j inverted n e = ltb e (4 * (predicateLength vl / 2 ^ j)) && pick inverted (not (ltb e n)) (ltb e n)
+
+-- the counter expanded: true at the lowest bit of each of those elements, bit 15 the inversion; no element if there is no mark
 unfoldable pub expanded : ℕ → Predicate → ℕ → Bool
-expanded vl p b = ltb (markOf p) 4 && spread (markOf p) (counterElement vl (markOf p) p) b
+expanded vl p b =
+    let j = markOf p in
+    ltb j 4 && spread j (counterElement vl j (bitAt p 15) (countAbove vl j p)) b
 
 -- WHILE into a counter
 unfoldable pub whileCounterOf : Condition → Bool → Bool → Size → ℕ → ℕ → ℕ → Effect

@@ -2,15 +2,17 @@
 use super::effect::Computed;
 use super::effect::gives_p;
 use super::effect::gives_x;
+use super::whiles::least;
 use bits::Size;
 use predicates::Predicate;
 use scalars::Condition;
 ghost use mathlib.Core.Path.{_≡_};
 ghost use mathlib.Core.Bool.{false};
-ghost use Prim.Native.Nat.{_*_, _^_, _<_, _≤_};
+ghost use Prim.Native.Nat.{_*_, _/_, _^_, _<_, _≤_, max};
+ghost use Rattle.bits.specs.Bits.{elementBit};
 ghost use Rattle.bits.specs.Search.{count};
 ghost use Rattle.bits.specs.Size.{shift};
-ghost use Rattle.predicates.specs.Predicate.{elements};
+ghost use Rattle.predicates.specs.Predicate.{predicateLength, elements};
 ghost use Rattle.predicates.specs.PredTest.{nzcv};
 ghost use Rattle.instructions.specs.Counter.{groupOf, stored, counterOf, counterFlags, countAbove, expanded, whileCounterOf, cntpCounterOf};
 ghost use Rattle.instructions.specs.Effect.{computed};
@@ -86,52 +88,57 @@ pub fn cntp_counter(four: bool, size: Size, pn: Predicate, vl: u64) -> Computed
     gives_x(count_expanded(pn, size, g, vl))
 }
 
-// How many of the first `g` elements of a size an expanded counter has.
+// How many of the first `g` elements of a size an expanded counter has. An element of the mark's size counts where one of that size
+// starts as well, which is where one of the larger of the two does.
 fn count_expanded(p: Predicate, size: Size, g: u64, vl: u64) -> u64
-    requires { ⌜ g < 2048 ⌝ }
+    requires { ⌜ g ≤ 1024 ⌝ }
     ensures { λ r. ⌜ r ≡ count (λ e. expanded vl p (e * 2 ^ shift size)) g ⌝ }
-{
-    let k = size.shift();
-    let mut n = 0;
-    let mut e = 0;
-    while e < g {
-        if is_expanded(p, e << k, vl) {
-            n += 1;
-        }
-        e += 1;
-    }
-    n
-}
-
-// Bit `b` of an expanded counter.
-fn is_expanded(p: Predicate, b: u64, vl: u64) -> bool
-    ensures { λ r. ⌜ r ≡ expanded vl p b ⌝ }
 {
     let words = p.words;
     let word = words[0];
     let mark = bits::lowest_bit(word);
     if 4 <= mark {
-        return false;
+        return 0;
     }
-    if b % (1 << mark) != 0 {
-        return false;
-    }
-    let e = b >> mark;
-    if 4 * (predicates::predicate_length(vl) >> mark) <= e {
-        return false;
-    }
-    let below = e < count_above(p, mark);
+    let k = size.shift();
+    let larger = greatest(k, mark);
+    let end = least(g << k, mark_end(mark, vl));
+    let n = starts_below(least(end, count_above(p, mark, vl) << mark), larger);
     if (word >> 15) % 2 == 1 {
-        return !below;
+        return starts_below(end, larger) - n;
     }
-    below
+    n
 }
 
-// The count of a counter: the bits above its mark, up to bit 14.
-fn count_above(p: Predicate, mark: u64) -> u64
+// The bit at which the elements of four vectors, of 2 ^ mark bits each, end.
+fn mark_end(mark: u64, vl: u64) -> u64
     requires { ⌜ mark < 4 ⌝ }
-    ensures { λ r. ⌜ r ≡ countAbove mark p ⌝ }
+    ensures { λ r. ⌜ r ≡ 4 * (predicateLength vl / 2 ^ mark) * 2 ^ mark ⌝ }
+{
+    (4 * (predicates::predicate_length(vl) >> mark)) << mark
+}
+
+// The count of a counter: the bits above its mark, up to the highest set bit of 4 PL.
+fn count_above(p: Predicate, mark: u64, vl: u64) -> u64
+    requires { ⌜ mark < 4 ⌝ }
+    ensures { λ r. ⌜ r ≡ countAbove vl mark p ⌝ }
 {
     let words = p.words;
-    (words[0] >> (mark + 1)) % (1 << (14 - mark))
+    let length = bits::bit_length(4 * predicates::predicate_length(vl));
+    (words[0] % (1 << length)) >> (mark + 1)
+}
+
+// How many elements of 2 ^ k bits start below bit `b`: a division that rounds up.
+fn starts_below(b: u64, k: u64) -> u64
+    requires { ⌜ (b ≤ 1024) × (k < 4) ⌝ }
+    ensures { λ r. ⌜ r ≡ count (elementBit k) b ⌝ }
+{
+    (b + ((1 << k) - 1)) >> k
+}
+
+// The larger of two.
+fn greatest(x: u64, n: u64) -> u64
+    ensures { λ r. ⌜ r ≡ max x n ⌝ }
+{
+    if x < n { n } else { x }
 }

@@ -33,7 +33,7 @@ fn end_of(up: bool, c: u64, n: u64) -> u64
 }
 
 // The smaller of two.
-fn least(x: u64, n: u64) -> u64
+pub fn least(x: u64, n: u64) -> u64
     ensures { λ r. ⌜ r ≡ min x n ⌝ }
 {
     if x < n { x } else { n }

@@ -1,8 +1,9 @@
--- Document 01's fourteen examples, at VL 128, computed from the definitions that the contracts of `step` and `decode` cite.
+-- Document 01's fourteen examples and document 02's, at VL 128, computed from the definitions that the contracts of `step` and `decode` cite.
 use mathlib.Core.Bool.{true, false}
 use mathlib.Core.List.{List, [], _∷_, _++_, map}
 use mathlib.Core.Path.{_≡_, refl}
 use Prim.Native.Nat.{ℕ, _-_, _^_}
+use native.Mathlib.Omega.{arith}
 use lib.ListN.{set, replicate}
 use Rattle.bits.specs.declared.Size.the-variants as Sz
 use Rattle.bits.specs.Bits.{testBit, number, elementBit}
@@ -17,10 +18,11 @@ use Rattle.scalars.specs.declared.Condition.the-variants.{Less, LessEqual, Grea
 use Rattle.words.specs.declared.Decoded.{Decoded}
 use Rattle.words.specs.declared.Decoded.the-variants.{Ours, Refused}
 use Rattle.words.specs.declared.Instruction.{Instruction}
-use Rattle.words.specs.declared.Instruction.the-variants.{While, Saturating, IncDec, Pnext}
+use Rattle.words.specs.declared.Instruction.the-variants.{While, Saturating, IncDec, CntpCounter, Pnext}
 use Rattle.words.specs.declared.Target.the-variants.{One, Pair, Counter}
 use Rattle.words.specs.Words.{readBy, decodeOf, wordOf, fieldsOf}
-use Rattle.instructions.specs.Counter.{counterOf, counterFlags, whileCounterOf}
+use Rattle.instructions.specs.Counter.{counterOf, counterFlags, countEnd, expanded, whileCounterOf, cntpCounterOf}
+use Rattle.instructions.proofs.Readings.{expandedTo14}
 use Rattle.instructions.specs.Counts.{incDecOf, saturatingOf}
 use Rattle.instructions.specs.Instructions.{computeOf}
 use Rattle.instructions.specs.Searches.{pnextOf}
@@ -30,6 +32,7 @@ use Rattle.scalars.specs.While.{operandAt, comparison}
 use Rattle.machine.specs.declared.Stepped.{Stepped}
 use Rattle.machine.specs.Execute.{apply, executeOf}
 use Rattle.machine.specs.Step.{afterWord, stepOf}
+use Rattle.machine.proofs.Counters.{counter-reads-alike}
 
 -- VL 128, level 3, access on; X1 and X2, P0 and P1 as given, all else zero
 start : ℕ → ℕ → ℕ → ℕ → State
@@ -59,11 +62,18 @@ read : Decoded → List ℕ
 read (Ours i) = wordOf i ∷ fieldsOf i
 read (Refused r) = []
 
--- an example by its number in the paper
+-- an example of document 01 by its number there, or of a request of document 02 by the request's
 pub record Example : Type 0 where
+  pub document : ℕ
   pub number : ℕ
   pub got : List ℕ
   pub wanted : List ℕ
+
+base : ℕ → List ℕ → List ℕ → Example
+base n got wanted = record { document = 1; number = n; got = got; wanted = wanted }
+
+request : ℕ → List ℕ → List ℕ → Example
+request n got wanted = record { document = 2; number = n; got = got; wanted = wanted }
 
 -- WHILE of X1 and X2: into P0, into P0 and P1, or into P8
 one : Instruction → ℕ → ℕ → List ℕ
@@ -71,26 +81,33 @@ one i a b = after (start a b 0 0) i
 
 pub examples : List Example
 examples =
-    record { number = 1; got = one (While Less true (One true 0) Sz.S 1 2) 10 13; wanted = gives 0b1010 10 0x0111 0 0 }
-    ∷ record { number = 2; got = one (While LessEqual false (One true 0) Sz.B 1 2) (2 ^ 63 - 2) (2 ^ 63 - 1); wanted = gives 0b1000 (2 ^ 63 - 2) 0xFFFF 0 0 }
-    ∷ record { number = 3; got = one (While Less false (One true 0) Sz.B 1 2) (2 ^ 63 - 2) (2 ^ 63 - 1); wanted = gives 0b1010 (2 ^ 63 - 2) 0x0001 0 0 }
-    ∷ record { number = 4; got = one (While Greater true (One true 0) Sz.H 1 2) 5 2; wanted = gives 0b0000 5 0x5400 0 0 }
-    ∷ record { number = 5; got = one (While Greater true (Pair 0) Sz.D 1 2) 3 2; wanted = gives 0b0000 3 0x0000 0x0100 0 }
-    ∷ record { number = 6; got = one (While GreaterEqual true (One true 0) Sz.S 1 2) 0 0; wanted = gives 0b1000 0 0x1111 0 0 }
-    ∷ record { number = 7; got = one (While LessEqual false (Counter false 0) Sz.S 1 2) 0 2; wanted = gives 0b1010 0 0 0 0x001C }
-    ∷ record { number = 8; got = one (While LessEqual false (Counter false 0) Sz.S 1 2) 0 7; wanted = gives 0b1000 0 0 0 0x8004 }
-    ∷ record { number = 9; got = one (While Greater false (Counter false 0) Sz.S 1 2) 3 0; wanted = gives 0b0000 3 0 0 0x802C }
-    ∷ record { number = 10; got = after (start 0 0 0 0x0024) (Pnext Sz.B 1 0); wanted = gives 0b1010 0 0x0004 0x0024 0 }
-    ∷ record { number = 10; got = after (start 0 0 0x0004 0x0024) (Pnext Sz.B 1 0); wanted = gives 0b0000 0 0x0020 0x0024 0 }
-    ∷ record { number = 10; got = after (start 0 0 0x0020 0x0024) (Pnext Sz.B 1 0); wanted = gives 0b0110 0 0x0000 0x0024 0 }
-    ∷ record { number = 11; got = after (start 0 0 0 0x0022) (Pnext Sz.S 1 0); wanted = gives 0b0110 0 0x0000 0x0022 0 }
-    ∷ record { number = 12; got = after (start 0xFFFFFFFF80000001 0 0 0x0007) (Saturating true false false Sz.B 1 1); wanted = gives 0b0000 0xFFFFFFFF80000000 0 0x0007 0 }
-    ∷ record { number = 13; got = after (start (2 ^ 64 - 1) 0 0 0x0003) (IncDec false Sz.B 1 1); wanted = gives 0b0000 1 0 0x0003 0 }
-    ∷ record { number = 14; got = read (decodeOf 0x25A24438); wanted = read (Ours (While LessEqual false (Counter false 0) Sz.S 1 2)) }
-    ∷ record { number = 14; got = read (decodeOf 0x25E55893); wanted = read (Ours (While Greater true (Pair 1) Sz.D 4 5)) }
-    ∷ record { number = 14; got = read (decodeOf 0x252A8C23); wanted = read (Ours (Saturating true false true Sz.B 1 3)) }
+    base 1 (one (While Less true (One true 0) Sz.S 1 2) 10 13) (gives 0b1010 10 0x0111 0 0)
+    ∷ base 2 (one (While LessEqual false (One true 0) Sz.B 1 2) (2 ^ 63 - 2) (2 ^ 63 - 1)) (gives 0b1000 (2 ^ 63 - 2) 0xFFFF 0 0)
+    ∷ base 3 (one (While Less false (One true 0) Sz.B 1 2) (2 ^ 63 - 2) (2 ^ 63 - 1)) (gives 0b1010 (2 ^ 63 - 2) 0x0001 0 0)
+    ∷ base 4 (one (While Greater true (One true 0) Sz.H 1 2) 5 2) (gives 0b0000 5 0x5400 0 0)
+    ∷ base 5 (one (While Greater true (Pair 0) Sz.D 1 2) 3 2) (gives 0b0000 3 0x0000 0x0100 0)
+    ∷ base 6 (one (While GreaterEqual true (One true 0) Sz.S 1 2) 0 0) (gives 0b1000 0 0x1111 0 0)
+    ∷ base 7 (one (While LessEqual false (Counter false 0) Sz.S 1 2) 0 2) (gives 0b1010 0 0 0 0x001C)
+    ∷ base 8 (one (While LessEqual false (Counter false 0) Sz.S 1 2) 0 7) (gives 0b1000 0 0 0 0x8004)
+    ∷ base 9 (one (While Greater false (Counter false 0) Sz.S 1 2) 3 0) (gives 0b0000 3 0 0 0x802C)
+    ∷ base 10 (after (start 0 0 0 0x0024) (Pnext Sz.B 1 0)) (gives 0b1010 0 0x0004 0x0024 0)
+    ∷ base 10 (after (start 0 0 0x0004 0x0024) (Pnext Sz.B 1 0)) (gives 0b0000 0 0x0020 0x0024 0)
+    ∷ base 10 (after (start 0 0 0x0020 0x0024) (Pnext Sz.B 1 0)) (gives 0b0110 0 0x0000 0x0024 0)
+    ∷ base 11 (after (start 0 0 0 0x0022) (Pnext Sz.S 1 0)) (gives 0b0110 0 0x0000 0x0022 0)
+    ∷ base 12 (after (start 0xFFFFFFFF80000001 0 0 0x0007) (Saturating true false false Sz.B 1 1)) (gives 0b0000 0xFFFFFFFF80000000 0 0x0007 0)
+    ∷ base 13 (after (start (2 ^ 64 - 1) 0 0 0x0003) (IncDec false Sz.B 1 1)) (gives 0b0000 1 0 0x0003 0)
+    ∷ base 14 (read (decodeOf 0x25A24438)) (read (Ours (While LessEqual false (Counter false 0) Sz.S 1 2)))
+    ∷ base 14 (read (decodeOf 0x25E55893)) (read (Ours (While Greater true (Pair 1) Sz.D 4 5)))
+    ∷ base 14 (read (decodeOf 0x252A8C23)) (read (Ours (Saturating true false true Sz.B 1 3)))
+    ∷ request 2 (after (withP (start 9 0 0 0) 8 (pack (testBit 0x0081))) (CntpCounter true Sz.B 8 1)) (gives 0b0000 0 0 0 0x0081)
     ∷ []
 
-pub fourteen : map (λ e. e .got) examples ≡ map (λ e. e .wanted) examples
-unfolding start seen after gives read one examples testBit number elementBit count some afterLast scan bitAt pack active spread elements predicateLength hasBitFrom atLowest atHighest predTest nzcv flagsOf isLength hasStrayBit illegal withX withP withFlags readBy operandAt comparison clamp saturating allHeld whileElement counterOf counterFlags whileOneOf whilePairOf whileCounterOf incDecOf saturatingOf pnextOf computeOf apply executeOf afterWord stepOf
-fourteen = refl
+pub as-wanted : map (λ e. e .got) examples ≡ map (λ e. e .wanted) examples
+unfolding start seen after gives read one base request examples testBit number elementBit count some afterLast scan bitAt pack active spread elements predicateLength hasBitFrom atLowest atHighest predTest nzcv flagsOf isLength hasStrayBit illegal withX withP withFlags readBy operandAt comparison clamp saturating allHeld whileElement counterOf counterFlags countEnd expanded whileOneOf whilePairOf whileCounterOf cntpCounterOf incDecOf saturatingOf pnextOf computeOf apply executeOf afterWord stepOf
+as-wanted = refl
+
+-- what `counter-reads-alike` asks of a state is met: the counter of example 7
+seventh-reads-alike : (b : ℕ) → expandedTo14 128 (readP (executeOf (start 0 2 0 0) (While LessEqual false (Counter false 0) Sz.S 1 2)) 8) b
+    ≡ expanded 128 (readP (executeOf (start 0 2 0 0) (While LessEqual false (Counter false 0) Sz.S 1 2)) 8) b
+unfolding start some bitAt testBit number pack predicateLength hasBitFrom isLength hasStrayBit illegal
+seventh-reads-alike = counter-reads-alike (start 0 2 0 0) (record { xs = refl; ps = refl }) LessEqual false false Sz.S 1 2 0 (omega arith) refl

@@ -5,11 +5,11 @@ use Prim.Native.Nat.{ℕ, _+_, _-_, _*_, _^_, _≤_, _<_}
 use native.Mathlib.Decide.{decLt}
 use native.Mathlib.Nat.{mul-assoc, mul-le-mul-right, lt-of-lt-of-le, mul-one}
 use native.Mathlib.Omega.{arith}
-use lib.Dec.{ltb, eqb}
+use lib.Dec.{ltb}
 use lib.ListN.{List·getD-eq-default}
 use lib.Pow.{pow-mono}
 use mir.Syntax.{w64}
-use borrow.Author.Tests.{le-ltb, ne-eqb, eqb-false, ltb-true}
+use borrow.Author.Tests.{le-ltb, ne-eqb, ltb-true}
 use Rattle.bits.specs.declared.Size.{Size}
 use Rattle.bits.specs.declared.Size.the-variants as Sz
 use Rattle.bits.specs.Choice.{pick}
@@ -42,6 +42,7 @@ use Rattle.instructions.specs.Instructions.{whileOf, computeOf}
 use Rattle.instructions.specs.Operands.{registersOf}
 use Rattle.instructions.specs.Whiles.{allHeld, whileElement, lowHalf, highHalf, whileOneOf, whilePairOf}
 use Rattle.scalars.specs.While.{upward, comparison, heldOf}
+use Rattle.instructions.proofs.CounterLaws.{counter-cases}
 use Rattle.instructions.proofs.WhileLaws.{held-le}
 use Rattle.instructions.proofs.LogicLaws.{logic-within}
 use Rattle.machine.specs.Execute.{valuesOf, apply, executeOf}
@@ -80,14 +81,7 @@ group-le true n = omega arith
 group-le false n = omega arith
 
 counter-lt : (up : Bool) (g n e k : ℕ) → n ≤ g → g ≤ 4 * e → e * 2 ^ k ≤ 256 → counterOf up g n k < 2 ^ 16
-unfolding counterOf
-counter-lt up g n e k h l f = go (eqb n 0) refl up (eqb n g) refl
-  where
-    go : (z : Bool) → eqb n 0 ≡ z → (u t : Bool) → eqb n g ≡ t → pick z 0 (pick u (pick t (stored true 0 k) (stored false n k)) (stored true (g - n) k)) < 2 ^ 16
-    go true ez u t et = omega arith
-    go false ez true true et = stored-lt true 0 e k (omega (arith, eqb-false n 0 ez)) f
-    go false ez true false et = stored-lt false n e k (omega (arith, eqb-false n g et)) f
-    go false ez false t et = stored-lt true (g - n) e k (omega (arith, eqb-false n 0 ez)) f
+counter-lt up g n e k h l f = counter-cases (λ w. w < 2 ^ 16) up g n k h (omega arith) (λ inverted m small. stored-lt inverted m e k (omega arith) f)
 
 -- ---- each instruction
 

@@ -2,6 +2,7 @@
 pub mod Executing
 pub mod Frame
 pub mod Kept
+pub mod Counters
 pub mod Steps
 pub mod Replies
 pub mod Examples

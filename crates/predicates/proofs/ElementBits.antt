@@ -1,19 +1,21 @@
 -- Elements and the bits that stand for them, over elements of 2 ^ k bits. Assumes nothing.
 use mathlib.Core.Bool.{Bool, true, false, not, _&&_, and-true, and-false}
 use mathlib.Core.Path.{_≡_, refl, sym, ap, ap₂, _∙_}
-use Prim.Native.Nat.{ℕ, _+_, _*_, _/_, _%_, _^_, _≤_, _<_, min}
-use native.Mathlib.Decide.{decLt}
-use native.Mathlib.Nat.{mul-mod-left, div-add-mod', div-lt-iff-lt-mul, div-le-self, div-one, mod-one, add-zero, zero-add, mul-lt-mul-of-pos-right, lt-of-lt-of-le}
+use Prim.Native.Nat.{ℕ, zero, suc, _+_, _-_, _*_, _/_, _%_, _^_, _≤_, _<_, min, max}
+use native.Mathlib.Decide.{decLt, ℕ-discrete}
+use native.Mathlib.Nat.{mul-mod-left, mul-assoc, zero-mul, suc-mul, mod-lt, div-eq-of-lt, max-eq-left, max-eq-right, div-add-mod', div-lt-iff-lt-mul, div-le-self, div-one, mod-one, add-zero, zero-add, mul-lt-mul-of-pos-right, lt-of-lt-of-le}
 use native.Mathlib.Omega.{arith}
+use lib.Arith.{digits-mod}
 use lib.Bits.{bitAnd}
 use lib.Dec.{ltb, leb, eqb, leb·zero}
-use lib.Pow.{pow-pos, shl-shr}
-use borrow.Author.Tests.{lt-ltb, le-ltb, le-leb, lt-leb, eq-eqb, eqb-true}
+use lib.Pow.{pow-pos, ones-lt, shl-shr, split, high}
+use borrow.Author.Tests.{lt-ltb, le-ltb, le-leb, lt-leb, eq-eqb, ne-eqb, eqb-true}
 use Rattle.bits.specs.Bits.{number, below, elementBit}
-use Rattle.bits.specs.Search.{some}
+use Rattle.bits.specs.Choice.{digit}
+use Rattle.bits.specs.Search.{count, some}
 use Rattle.bits.proofs.Bits.{number-and, number-cong}
-use Rattle.bits.proofs.Searches.{some-cong}
-use Rattle.bits.proofs.Sizes.{element-again}
+use Rattle.bits.proofs.Searches.{some-cong, count-cong, count-low, count-add, count-none}
+use Rattle.bits.proofs.Sizes.{element-again, power-parts}
 use Rattle.predicates.specs.declared.Predicate.{Predicate}
 use Rattle.predicates.specs.Predicate.{bitAt, pack, active, spread, between, spanOf, hasBitFrom}
 use Rattle.predicates.proofs.Words.{pack-bit, pack-cong}
@@ -55,6 +57,90 @@ scaled k m b =
 -- a bit of an element below n
 pub in-bits : (k n e : ℕ) → e < n → n * 2 ^ k ≤ 256 → e * 2 ^ k < 256
 in-bits k n e l h = lt-of-lt-of-le (mul-lt-mul-of-pos-right l (pow-pos k)) h
+
+-- ---- where elements start
+
+-- past its lowest bit no element starts
+not-start : (k e i : ℕ) → suc i < 2 ^ k → elementBit k (e * 2 ^ k + suc i) ≡ false
+unfolding elementBit
+not-start k e i h = ne-eqb ((e * 2 ^ k + suc i) % 2 ^ k) 0 (λ z. let r : (e * 2 ^ k + suc i) % 2 ^ k ≡ suc i = digits-mod e h in omega arith)
+
+between-starts : (k : ℕ) (q : ℕ → Bool) (e i : ℕ) → suc i < 2 ^ k → spread k q (e * 2 ^ k + suc i) ≡ false
+unfolding spread
+between-starts k q e i h = ap (λ (t : Bool). t && q ((e * 2 ^ k + suc i) / 2 ^ k)) (not-start k e i h)
+
+-- the bits of n elements have as many true ones as there are true elements
+pub count-spread : (k : ℕ) (q : ℕ → Bool) (n : ℕ) → count (spread k q) (n * 2 ^ k) ≡ count q n
+unfolding count
+count-spread k q zero = rw zero-mul
+count-spread k q (suc n) =
+    ap (count (spread k q)) (suc-mul n (2 ^ k)) ∙ count-add (spread k q) (n * 2 ^ k) (2 ^ k) ∙ ap₂ (λ (x y : ℕ). x + y) (count-spread k q n) one
+  where
+    one : count (λ i. spread k q (n * 2 ^ k + i)) (2 ^ k) ≡ digit (q n)
+    one =
+        let whole : 2 ^ k ≡ suc (2 ^ k - 1) = omega (arith, pow-pos k) in
+        ap (count (λ i. spread k q (n * 2 ^ k + i))) whole ∙ count-low _ (2 ^ k - 1)
+        ∙ ap₂ (λ (x y : ℕ). x + y) (ap digit (ap (spread k q) (add-zero (n * 2 ^ k)) ∙ spread-at k q n)) (count-none _ (2 ^ k - 1) (λ i h. between-starts k q n i (omega arith)))
+        ∙ add-zero (digit (q n))
+
+-- elements counted by the bits that they start at
+pub count-at-bits : (k : ℕ) (f : ℕ → Bool) (n : ℕ) → count (λ e. f (e * 2 ^ k)) n ≡ count (λ b. elementBit k b && f b) (n * 2 ^ k)
+unfolding spread
+count-at-bits k f n = sym (count-spread k (λ e. f (e * 2 ^ k)) n) ∙ count-cong _ _ (n * 2 ^ k) (λ b l. at b (elementBit k b) refl)
+  where
+    at : (b : ℕ) (t : Bool) → elementBit k b ≡ t → (t && f (b / 2 ^ k * 2 ^ k)) ≡ (t && f b)
+    at b false e = refl
+    at b true e = ap f (start-of k b e)
+
+-- a division that rounds up grows where an element starts
+up-next : (k b : ℕ) → (suc b + (2 ^ k - 1)) / 2 ^ k ≡ (b + (2 ^ k - 1)) / 2 ^ k + digit (elementBit k b)
+unfolding elementBit
+up-next k b = elim (ℕ-discrete (b % 2 ^ k) 0) [ yes z ↦ starts z | no z ↦ within z ]
+  where
+    starts : b % 2 ^ k ≡ 0 → (suc b + (2 ^ k - 1)) / 2 ^ k ≡ (b + (2 ^ k - 1)) / 2 ^ k + digit (eqb (b % 2 ^ k) 0)
+    starts z =
+        let q = b / 2 ^ k in
+        let after : suc b + (2 ^ k - 1) ≡ suc q * 2 ^ k + 0 = omega (arith, split b k, pow-pos k, suc-mul q (2 ^ k)) in
+        let before : b + (2 ^ k - 1) ≡ q * 2 ^ k + (2 ^ k - 1) = omega (arith, split b k) in
+        rw (after, before, high (suc q) k (pow-pos k), high q k (ones-lt k), eq-eqb (b % 2 ^ k) 0 z) (omega arith)
+
+    within : (b % 2 ^ k ≡ 0 → ⊥) → (suc b + (2 ^ k - 1)) / 2 ^ k ≡ (b + (2 ^ k - 1)) / 2 ^ k + digit (eqb (b % 2 ^ k) 0)
+    within z =
+        let q = b / 2 ^ k in
+        let small : b % 2 ^ k < 2 ^ k = mod-lt b (pow-pos k) in
+        let less : b % 2 ^ k - 1 < 2 ^ k = omega arith in
+        let after : suc b + (2 ^ k - 1) ≡ suc q * 2 ^ k + b % 2 ^ k = omega (arith, split b k, pow-pos k, suc-mul q (2 ^ k)) in
+        let before : b + (2 ^ k - 1) ≡ suc q * 2 ^ k + (b % 2 ^ k - 1) = omega (arith, split b k, pow-pos k, suc-mul q (2 ^ k)) in
+        ap (λ (x : ℕ). x / 2 ^ k) after ∙ high (suc q) k small
+        ∙ sym (ap₂ (λ (x : ℕ) (t : Bool). x + digit t) (ap (λ (x : ℕ). x / 2 ^ k) before ∙ high (suc q) k less) (ne-eqb (b % 2 ^ k) 0 z) ∙ add-zero (suc q))
+
+-- so it is how many elements start below bit b
+pub count-starts : (k b : ℕ) → (b + (2 ^ k - 1)) / 2 ^ k ≡ count (elementBit k) b
+unfolding count
+count-starts k zero = ap (λ (x : ℕ). x / 2 ^ k) (omega arith) ∙ div-eq-of-lt (ones-lt k)
+count-starts k (suc b) = up-next k b ∙ ap (λ (x : ℕ). x + digit (elementBit k b)) (count-starts k b)
+
+-- where an element starts, a smaller one does
+starts-smaller : (j k b : ℕ) → j ≤ k → elementBit k b ≡ true → elementBit j b ≡ true
+starts-smaller j k b h t =
+    let parts : b ≡ b / 2 ^ k * 2 ^ (k - j) * 2 ^ j = sym (mul-assoc (b / 2 ^ k) (2 ^ (k - j)) (2 ^ j) ∙ ap (λ (x : ℕ). b / 2 ^ k * x) (power-parts j k h) ∙ start-of k b t) in
+    ap (elementBit j) parts ∙ element-start j (b / 2 ^ k * 2 ^ (k - j))
+
+-- elements of two sizes start together where one of the larger does
+pub both-start : (k j b : ℕ) → (elementBit k b && elementBit j b) ≡ elementBit (max k j) b
+both-start k j b =
+    elim (decLt k j) [
+      | yes l ↦ smaller-first (elementBit k b) (elementBit j b) (starts-smaller k j b (omega arith)) ∙ ap (λ (x : ℕ). elementBit x b) (sym (max-eq-right (omega arith)))
+      | no l ↦ smaller-second (elementBit k b) (elementBit j b) (starts-smaller j k b (omega arith)) ∙ ap (λ (x : ℕ). elementBit x b) (sym (max-eq-left (omega arith)))
+    ]
+  where
+    smaller-first : (s t : Bool) → (t ≡ true → s ≡ true) → (s && t) ≡ t
+    smaller-first s true h = rw (h refl)
+    smaller-first s false h = and-false s
+
+    smaller-second : (t s : Bool) → (t ≡ true → s ≡ true) → (t && s) ≡ t
+    smaller-second true s h = h refl
+    smaller-second false s h = refl
 
 -- ---- spans
 

@@ -1,25 +1,23 @@
 -- Searches over a vector's elements, from searches over the bits of a predicate under the live elements. The facts are over elements of 2 ^ k bits
 -- and any number n of them that fits 256 bits. Assumes nothing.
 use mathlib.Core.Bool.{Bool, true, false, not, _&&_, and-false}
-use mathlib.Core.Path.{_≡_, refl, sym, ap, ap₂, _∙_}
-use Prim.Native.Nat.{ℕ, zero, suc, _+_, _-_, _*_, _/_, _%_, _^_, _≤_, _<_, zero-le, min}
+use mathlib.Core.Path.{_≡_, refl, sym, ap, _∙_}
+use Prim.Native.Nat.{ℕ, zero, suc, _+_, _-_, _*_, _/_, _^_, _≤_, _<_, zero-le, min}
 use native.Mathlib.Decide.{decLt, ℕ-discrete}
-use native.Mathlib.Nat.{le-refl, add-zero, zero-mul, suc-mul, div-eq-of-lt, div-mul-le-self, div-le-self, div-lt-iff-lt-mul, le-div-iff-mul-le, le-trans, min-le-right, mul-le-mul-right}
+use native.Mathlib.Nat.{suc-mul, div-eq-of-lt, div-mul-le-self, div-le-self, div-lt-iff-lt-mul, le-div-iff-mul-le, le-trans, min-le-right, mul-le-mul-right}
 use native.Mathlib.Omega.{arith}
-use lib.Arith.{digits-mod}
 use lib.Dec.{ltb, eqb}
 use lib.Pow.{pow-pos, ones-lt, shl-shr}
 use borrow.Author.Tests.{lt-ltb, le-ltb, eq-eqb, ne-eqb}
 use Rattle.bits.specs.declared.Size.{Size}
 use Rattle.bits.specs.Bits.{elementBit}
-use Rattle.bits.specs.Choice.{digit}
 use Rattle.bits.specs.Search.{count, some, firstFrom, afterLast}
 use Rattle.bits.specs.Size.{shift}
-use Rattle.bits.proofs.Searches.{never, count-cong, count-low, count-add, count-end, count-none, some-yes, some-no, some-none, some-found, first-found, first-is, first-cong, last-found, last-is, last-cong, last-le}
+use Rattle.bits.proofs.Searches.{never, count-cong, count-end, some-yes, some-no, some-none, some-found, first-found, first-is, first-cong, last-found, last-is, last-cong, last-le}
 use Rattle.predicates.specs.declared.Predicate.{Predicate}
 use Rattle.predicates.specs.PredTest.{atLowest, atHighest, predTest}
 use Rattle.predicates.specs.Predicate.{bitAt, pack, active, touched, spread, between, spanOf, predicateLength, elements, liveOf}
-use Rattle.predicates.proofs.ElementBits.{element-start, start-of, spread-at, span-bit, between-from-zero, in-bits}
+use Rattle.predicates.proofs.ElementBits.{element-start, start-of, spread-at, span-bit, between-from-zero, in-bits, count-spread}
 use Rattle.predicates.proofs.Flagging.{flags-are}
 use Rattle.predicates.proofs.Words.{Words, bit-past, pack-bit, pack-cong, pack-words}
 
@@ -155,32 +153,11 @@ module _ (k n : ℕ) (fits : n * 2 ^ k ≤ 256) (q : ℕ → Bool) (past : (e : 
           whole : (e : ℕ) → suc (e * 2 ^ k) + (2 ^ k - 1) ≡ suc e * 2 ^ k
           whole e = omega (arith, pow-pos k, suc-mul e (2 ^ k))
 
-  -- of an element's bits only the lowest can be set
-  not-lowest : (e i : ℕ) → e < n → suc i < 2 ^ k → bit (e * 2 ^ k + suc i) ≡ false
-  unfolding elementBit
-  not-lowest e i l h =
-      none-off (e * 2 ^ k + suc i) (omega (arith, mul-le-mul-right (2 ^ k) l, suc-mul e (2 ^ k)))
-      (ne-eqb ((e * 2 ^ k + suc i) % 2 ^ k) 0 (λ z. let r : (e * 2 ^ k + suc i) % 2 ^ k ≡ suc i = digits-mod e h in omega arith))
-
-  count-element : (e : ℕ) → e < n → count (λ i. bit (e * 2 ^ k + i)) (2 ^ k) ≡ digit (q e)
-  count-element e l =
-      let whole : 2 ^ k ≡ suc (2 ^ k - 1) = omega (arith, pow-pos k) in
-      ap (count (λ i. bit (e * 2 ^ k + i))) whole ∙ count-low _ (2 ^ k - 1)
-      ∙ ap₂ (λ (x y : ℕ). x + y)
-      (ap digit (ap bit (add-zero (e * 2 ^ k)) ∙ bit-at e l))
-      (count-none _ (2 ^ k - 1) (λ i h. not-lowest e i l (omega arith)))
-      ∙ add-zero (digit (q e))
-
-  count-upto : (m : ℕ) → m ≤ n → count bit (m * 2 ^ k) ≡ count q m
-  unfolding count
-  count-upto zero h = rw zero-mul
-  count-upto (suc m) h =
-      ap (count bit) (suc-mul m (2 ^ k)) ∙ count-add bit (m * 2 ^ k) (2 ^ k) ∙ ap₂ (λ (x y : ℕ). x + y) (count-upto m (omega arith)) (count-element m h)
-
   -- the count of bits is the count of elements
   pub count-bits : count (bitsOf k q) 256 ≡ count q n
   count-bits =
-      count-end bit (n * 2 ^ k) 256 fits (λ b l h. none-at b h (past (b / 2 ^ k) (le-div-iff-mul-le (pow-pos k) .1 l))) ∙ count-upto n (le-refl n)
+      count-end bit (n * 2 ^ k) 256 fits (λ b l h. none-at b h (past (b / 2 ^ k) (le-div-iff-mul-le (pow-pos k) .1 l)))
+      ∙ count-cong _ _ (n * 2 ^ k) (λ b h. pack-bit (spread k q) b (omega arith)) ∙ count-spread k q n
 
 -- ---- PredTest over elements, from PredTest over bits
 

@@ -2,12 +2,13 @@
 use mathlib.Core.Bool.{Bool, true, false, not, _&&_, _||_}
 use mathlib.Core.List.{List, [], _∷_}
 use mathlib.Core.Path.{_≡_, refl, ap, ap₂, _∙_}
-use Prim.Native.Nat.{ℕ, zero, suc, _+_, _*_, _≤_, _<_}
+use Prim.Native.Nat.{ℕ, zero, suc, _+_, _*_, _^_, _≤_, _<_}
 use native.Mathlib.Decide.{ℕ-discrete}
 use native.Mathlib.Numerals.{add-one}
 use native.Mathlib.Omega.{arith}
 use lib.Dec.{leb}
 use lib.ListN.{getD, set, length}
+use lib.Pow.{pow-pos, pow-mono}
 use borrow.Author.Tests.{ne-eqb, eqb-true, le-leb, leb-true}
 use Rattle.bits.specs.Search.{some}
 use Rattle.bits.proofs.Searches.{never, some-cong, some-none, some-no, some-swap, some-and}
@@ -83,27 +84,30 @@ unfolding illegal hasStrayBit
 has-legal s l =
     ap (λ (a : Bool). not (not a || hasStrayBit s)) (has-settings (s .vl) (s .level) (l .len) (l .level)) ∙ ap not (some-no _ 16 (l .bits))
 
--- VL is 128 q, with q from 1 to 16
-pub quads : (vl : ℕ) → isLength vl ≡ true → (q : ℕ) × (vl ≡ 128 * q) × (1 ≤ q) × (q ≤ 16)
+-- VL is 128 times a power of two, and so 128 q with q from 1 to 16
+pub powers : (vl : ℕ) → isLength vl ≡ true → (i : ℕ) × (vl ≡ 128 * 2 ^ i) × (i ≤ 4)
 unfolding isLength
-quads vl h =
+powers vl h =
     elim (ℕ-discrete vl 128) [
-      | yes e ↦ (1, e, omega arith, omega arith)
+      | yes e ↦ (0, e, omega arith)
       | no a ↦
           elim (ℕ-discrete vl 256) [
-            | yes e ↦ (2, e, omega arith, omega arith)
+            | yes e ↦ (1, e, omega arith)
             | no b ↦
                 elim (ℕ-discrete vl 512) [
-                  | yes e ↦ (4, e, omega arith, omega arith)
+                  | yes e ↦ (2, e, omega arith)
                   | no c ↦
                       elim (ℕ-discrete vl 1024) [
-                        | yes e ↦ (8, e, omega arith, omega arith)
+                        | yes e ↦ (3, e, omega arith)
                         | no d ↦
-                            (16, eqb-true vl 2048 (rw (ne-eqb vl 128 a, ne-eqb vl 256 b, ne-eqb vl 512 c, ne-eqb vl 1024 d) at h), omega arith, omega arith)
+                            (4, eqb-true vl 2048 (rw (ne-eqb vl 128 a, ne-eqb vl 256 b, ne-eqb vl 512 c, ne-eqb vl 1024 d) at h), omega arith)
                       ]
                 ]
           ]
     ]
+
+pub quads : (vl : ℕ) → isLength vl ≡ true → (q : ℕ) × (vl ≡ 128 * q) × (1 ≤ q) × (q ≤ 16)
+quads vl h = let (i, e, l) = powers vl h in (2 ^ i, e, pow-pos i, pow-mono {i = i} {j = 4} l)
 
 -- ---- writes keep legality
 

@@ -31,6 +31,7 @@ const NOTES: &str = "
 step, run: 4,096 words, the twelve forms in turn, their fields drawn at random, at level 3. The library's state after them
 was compared with the second program's. Step, lent: by way of the step by value. Nine forms: those of levels 1 and 2.
 Logic: predicate logic alone, all operations, with and without flags.
+Counters: CNTP of counters alone, all sizes and groups, of all marks, half of them inverted.
 walk: 2,000,000 byte positions (the second program: 20,000). Instructions are the walk's own, D + 3R + 2.";
 
 const QEMU_NOTES: &str = "
@@ -42,6 +43,7 @@ struct Bench {
     all: Vec<u32>,
     base: Vec<u32>,
     logic: Vec<u32>,
+    counters: Vec<u32>,
     list: Vec<u64>,
     qemu: Option<Qemu>,
     table: Table,
@@ -52,13 +54,15 @@ fn main() {
     let qemu = Qemu::build(&base).map_err(|missing| println!("Without QEMU: {missing}.\n")).ok();
     let all = words::all_forms(WORDS);
     let logic = words::logic(WORDS);
+    let counters = words::counters(WORDS);
     let list = vec![1; POSITIONS as usize];
-    let mut bench = Bench { all, base, logic, list, qemu, table: Table::default() };
+    let mut bench = Bench { all, base, logic, counters, list, qemu, table: Table::default() };
     for _ in 0..ROUNDS {
         for (column, vl) in LENGTHS.into_iter().enumerate() {
             bench.words_round(column, vl);
             bench.base_words_round(column, vl);
             bench.logic_round(column, vl);
+            bench.counters_round(column, vl);
             bench.walk_round(column, vl);
         }
     }
@@ -101,6 +105,14 @@ impl Bench {
         let Bench { table, logic, .. } = self;
         table.take("run, logic", column, library::run(&start, logic));
         table.take("run, logic, second program", column, second::step(&start, logic));
+    }
+
+    /// Times CNTP of counters.
+    fn counters_round(&mut self, column: usize, vl: u64) {
+        let start = words::start_of_counters(vl);
+        let Bench { table, counters, .. } = self;
+        table.take("run, counters", column, library::run(&start, counters));
+        table.take("run, counters, second program", column, second::step(&start, counters));
     }
 
     fn walk_round(&mut self, column: usize, vl: u64) {

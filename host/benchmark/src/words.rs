@@ -49,11 +49,14 @@ const LOGIC_BITS: [u32; 4] = [23, 22, 9, 4];
 /// Predicate logic without its mask and target.
 const LOGIC_OPERANDS: Shape = shape(0x2500_4000, &LOGIC_BITS, &[16, 5], &[]);
 
+/// CNTP of a counter.
+const CNTP_COUNTER: Shape = shape(0x2520_8200, &[23, 22, 10], &[5], &[0]);
+
 /// Those of level 3, which QEMU 7.2 does not know. A pair's and a counter's target has three bits, each a field here.
 const LATE: [Shape; 3] = [
     shape(0x2520_5010, &[23, 22, 11, 10, 3, 2, 1, 0], &[], &[16, 5]), // WHILE, pair
     shape(0x2520_4010, &[23, 22, 13, 11, 10, 3, 2, 1, 0], &[], &[16, 5]), // WHILE, counter
-    shape(0x2520_8200, &[23, 22, 10], &[5], &[0]),                    // CNTP, counter
+    CNTP_COUNTER,
 ];
 
 /// X0 to X27 and 31: under QEMU the rest are the loop's own.
@@ -115,6 +118,23 @@ pub fn start_of_logic(vl: u64) -> State {
         let (p, bit) = (bit % 16, bit / 16);
         let one = if p == 0 { 1 } else { dice.below(2) };
         state.p[p].words[bit / 64] |= one << (bit % 64);
+    }
+    state
+}
+
+/// Words of CNTP of counters alone, of every size and group.
+pub fn counters(count: usize) -> Vec<u32> {
+    mix(&[&CNTP_COUNTER], count)
+}
+
+/// The same start with counters in the predicates: four of each mark, half of them inverted, any count of four vectors.
+pub fn start_of_counters(vl: u64) -> State {
+    let mut dice = Dice::new(0xD134_2543_DE82_EF95);
+    let mut state = start(vl);
+    for (i, p) in state.p.iter_mut().enumerate() {
+        let (size, inversion) = (i % 4, i as u64 / 8);
+        let count = dice.below(4 * vl / (8 << size));
+        p.words[0] = inversion << 15 | count << (size + 1) | 1 << size;
     }
     state
 }

@@ -1,6 +1,7 @@
 //! Instruction words: of every form, near misses, and any numbers.
 
 use crate::random::Random;
+use crate::states;
 use model::{encode, Row, State};
 
 pub const FORMS: [&str; 12] = [
@@ -33,6 +34,10 @@ pub const WIDTHS: [&[u8]; FORMS.len()] = [
     &[4],
     &[1, 1, 4, 4, 1, 4, 1, 4],
 ];
+
+/// The numbers of the forms that write a counter and read one.
+pub const WHILE_COUNTER: u8 = 2;
+pub const CNTP_COUNTER: u8 = 6;
 
 /// The number of predicate logic. The fields are op, S, Pm, Pg, o2, Pn, o3, Pd.
 pub const LOGIC: u8 = 11;
@@ -112,7 +117,7 @@ pub fn any(random: &mut Random) -> u32 {
 }
 
 /// Often sets a register that the word reads, so that its operands lie as far apart as there are elements or lie around
-/// the ends of its range. The state is legal.
+/// the ends of its range, or so that it is a counter. The state is legal.
 pub fn tie(random: &mut Random, state: &mut State, word: u32) {
     if random.one_in(3) {
         return;
@@ -129,6 +134,10 @@ pub fn tie(random: &mut Random, state: &mut State, word: u32) {
         Some([1, size, rm, _, lt, rn, ..]) => tie_limit(random, state, 2 * elements(size), rn, rm, lt),
         Some([2, size, rm, vl, _, lt, rn, ..]) => tie_limit(random, state, elements(size) << (1 + vl), rn, rm, lt),
         Some([3, size, _, u, sf, _, rdn, ..]) => tie_end(random, state, elements(size), u, sf, rdn),
+        Some([CNTP_COUNTER, _, _, pnn, ..]) => {
+            let low = &mut state.p[usize::from(pnn)][0];
+            *low = *low & !0xFFFF | states::counter(random, vl);
+        }
         _ => {}
     }
 }

@@ -5,6 +5,7 @@
 #![deny(unsafe_code)]
 
 mod boundary;
+mod counters;
 mod differences;
 mod images;
 mod kind;
@@ -14,6 +15,7 @@ mod seen;
 mod steps;
 mod texts;
 mod walks;
+mod whiles;
 mod words;
 mod writes;
 
@@ -34,11 +36,13 @@ fn entry<K: Kind>() -> Entry {
     Entry { name: K::NAME, all: run_all::<K>, one: run_case::<K> }
 }
 
-fn entries() -> [Entry; 11] {
+fn entries() -> [Entry; 13] {
     [
         entry::<steps::Steps>(),
         entry::<steps::Runs>(),
         entry::<logic::Logic>(),
+        entry::<counters::Counters>(),
+        entry::<whiles::Whiles>(),
         entry::<walks::Walks>(),
         entry::<images::Reads>(),
         entry::<images::Cuts>(),

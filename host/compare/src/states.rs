@@ -1,5 +1,6 @@
 //! Register states: legal ones with values that matter, and illegal ones.
 
+use crate::counter::last_bit;
 use crate::random::Random;
 use model::{Flags, State};
 
@@ -147,15 +148,18 @@ fn few_bits(random: &mut Random, vl: u64) -> [u64; 4] {
     words
 }
 
-/// Sixteen bits: a count that fits the group, one around its end, or anything.
-fn counter(random: &mut Random, vl: u64) -> u64 {
+/// Sixteen bits: a count that fits the group or one around its end, half of these with bits past the last of a count;
+/// or anything.
+pub fn counter(random: &mut Random, vl: u64) -> u64 {
     if random.one_in(4) {
         return random.below(1 << 16);
     }
     let size = random.below(4);
     let group = 4 * vl / (8 << size);
     let count = if random.one_in(4) { random.near(group, 2) } else { random.below(group + 1) };
-    random.below(2) << 15 | (count << (size + 1) | 1 << size) & 0x7FFF
+    let past = last_bit(vl) + 1;
+    let junk = if random.one_in(2) { random.next() >> past << past } else { 0 };
+    random.below(2) << 15 | (junk | count << (size + 1) | 1 << size) & 0x7FFF
 }
 
 /// Clears the bits at or above PL.

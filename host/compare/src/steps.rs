@@ -5,6 +5,7 @@ use crate::differences::{show_state, show_word, show_words, Differences, Outcome
 use crate::kind::{Forms, Kind};
 use crate::lent::{word, Lent};
 use crate::seen::Seen;
+use compare::counter::Reading;
 use compare::instructions;
 use compare::random::Random;
 use compare::states::{self, LENGTHS};
@@ -34,6 +35,7 @@ impl Kind for Steps {
         "PNEXT found",
         "PNEXT found none",
         "CNTP counter above 0",
+        "CNTP counter, another answer up to bit 14",
         "X31 named",
         "a register twice",
         "SEL with S refused",
@@ -110,7 +112,11 @@ fn note_accepted(seen: &mut Seen, before: &State, after: &State, row: &Row) {
             seen.note_if(low(after) != low(&other), "saturated");
         }
         [7, ..] => seen.note(if flags.z { "PNEXT found none" } else { "PNEXT found" }),
-        [6, _, _, _, rd, ..] if rd < 31 => seen.note_if(after.x[usize::from(rd)] > 0, "CNTP counter above 0"),
+        [6, _, _, _, rd, ..] if rd < 31 => {
+            let junk = Reading::of(before, row).has_junk_that_matters();
+            seen.note_if(after.x[usize::from(rd)] > 0, "CNTP counter above 0");
+            seen.note_if(junk, "CNTP counter, another answer up to bit 14");
+        }
         _ => {}
     }
     note_registers(seen, row);

@@ -36,8 +36,8 @@ pub fn counter_to_predicate(counter: u16, pl: usize) -> Vec<bool> {
     let Some(size) = marked_size(counter) else {
         return bits;
     };
-    // "Every bit above the mark up to bit 14": Arm's page stops at the bit that 4E needs; document 01 decides.
-    let count = usize::from((counter & 0x7fff) >> (size + 1));
+    let maxbit = highest_set_bit(pl * 4);
+    let count = uint(counter, maxbit, u32::from(size) + 1); // pred<maxbit:1> for B to pred<maxbit:4> for D
     let invert = counter >> 15 == 1;
     for e in 0..4 * pl / psize(size) {
         let below = e < count;
@@ -49,4 +49,14 @@ pub fn counter_to_predicate(counter: u16, pl: usize) -> Vec<bool> {
 /// "The lowest bit set is the mark and gives the size"; none if the low four bits are zero.
 fn marked_size(counter: u16) -> Option<u8> {
     (0..4).find(|&size| (counter >> size) & 1 == 1)
+}
+
+/// Arm's HighestSetBit: the position of the highest bit that is 1.
+fn highest_set_bit(number: usize) -> u32 {
+    number.ilog2()
+}
+
+/// Arm's UInt(bits<high:low>).
+fn uint(bits: u16, high: u32, low: u32) -> usize {
+    usize::from(bits >> low) % (1 << (high - low + 1))
 }

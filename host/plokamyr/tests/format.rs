@@ -148,3 +148,19 @@ fn operations() {
         }
     }
 }
+
+/// Where the count of a counter ends; the bit after that is not looked at.
+#[test]
+fn counts() {
+    assert!(section("Instruction words").contains("(6 at VL 128, 10 at VL 2048)"));
+    let cntp = encode(Row::new(Form::CntpCounter, &[0, 1, 8, 0]).expect("the form's own fields")).expect("in range");
+    for (vl, last) in [(128, 6), (256, 7), (512, 8), (1024, 9), (2048, 10)] {
+        let counted = |bit: u32| {
+            let mut state = State::new(vl, 3);
+            state.p[8] = Predicate::from(1 << bit | 1);
+            assert_eq!(state.step(cntp), Reply::Done);
+            state.x[0]
+        };
+        assert_eq!((counted(last), counted(last + 1)), (vl / 4, 0));
+    }
+}

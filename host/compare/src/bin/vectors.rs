@@ -2,6 +2,7 @@
 //! kind (1 byte) and the length of the rest (4 bytes). `vectors [seed] > file`; counts go to standard error.
 #![forbid(unsafe_code)]
 
+use compare::counter::Reading;
 use compare::random::Random;
 use compare::routes::{route, Bounds};
 use compare::{damage, instructions, states};
@@ -36,7 +37,7 @@ fn main() {
         image(&mut file, &mut Random::new(seed, u64::from(IMAGE), number));
     }
     for number in 0..WALKS {
-        walk(&mut file, &mut Random::new(seed, u64::from(WALK), number));
+        walk(&mut file, &mut Random::new(seed, u64::from(WALK), number), number);
     }
     file.say_and_check();
     std::io::stdout().write_all(&file.bytes).expect("standard output takes the file");
@@ -82,6 +83,7 @@ fn expected() -> Vec<String> {
     list.extend([0, 1, 2, 3].map(|level| format!("runs at level {level}")));
     list.extend([0, 1, 2, 3].map(stopped_by));
     list.push(LEFT_OUT.to_string());
+    list.extend(states::LENGTHS.map(counter_with_junk));
     list.extend([0, 5, 6, 7].map(|reply| reply_of(IMAGE, reply)));
     list.extend([0, 2, 3, 10, 11, 12].map(|reply| reply_of(WALK, reply)));
     list
@@ -89,6 +91,11 @@ fn expected() -> Vec<String> {
 
 fn executed(form: &str, vl: u64) -> String {
     format!("executed {form} at {vl}")
+}
+
+/// A CNTP that would answer otherwise if counts ended at bit 14.
+fn counter_with_junk(vl: u64) -> String {
+    format!("executed CNTP counter with junk past its count at {vl}")
 }
 
 /// An image holds no illegal state, so that the run's own reply is always 0.
@@ -130,8 +137,18 @@ fn run(file: &mut File, random: &mut Random, number: u64) {
     }
     file.see(format!("runs at level {}", state.level));
     for &word in &words[..ran.done] {
-        let row = model::decode(word).expect("it was executed");
-        file.see(executed(instructions::FORMS[usize::from(row[0])], vl));
+        see_word(file, &state, word);
+        let _ = model::step(&mut state, word);
+    }
+}
+
+/// What a word does that is executed on this state.
+fn see_word(file: &mut File, state: &State, word: u32) {
+    let row = model::decode(word).expect("it was executed");
+    file.see(executed(instructions::FORMS[usize::from(row[0])], state.vl));
+    let [instructions::CNTP_COUNTER, _, _, _, rd, ..] = row else { return };
+    if rd < 31 && Reading::of(state, &row).has_junk_that_matters() {
+        file.see(counter_with_junk(state.vl));
     }
 }
 
@@ -163,9 +180,12 @@ fn image(file: &mut File, random: &mut Random) {
     file.see(reply_of(IMAGE, reply));
 }
 
-fn walk(file: &mut File, random: &mut Random) {
+fn walk(file: &mut File, random: &mut Random, number: u64) {
     let vl = random.pick(&LENGTHS);
-    let route = route(random, vl, &Bounds { far: 40, bytes: true });
+    let mut route = route(random, vl, &Bounds { far: 40, bytes: true });
+    if number < 3 {
+        route.state.level = 0; // seldom drawn
+    }
     let mut list = vec![u64::MAX; route.places];
     let (size, n, m, d, k) = (route.size, route.n, route.m, route.d, route.k);
     let walked = model::walk(&route.state, size, n, m, d, k, &mut list, route.budget);

@@ -1,19 +1,34 @@
 -- `count_above` meets its contract. Assumes nothing.
-use mathlib.Core.Path.{sym, _∙_}
-use Prim.Native.Nat.{_-_}
-use native.Mathlib.Nat.{one-mul, mod-eq-of-lt}
-use native.Mathlib.Numerals.{add-one}
 use native.Mathlib.Omega.{arith}
-use lib.Pow.{pow-pos, pow-lt}
+use lib.Pow.{pow-pos}
 use borrow.Author.Needs.{needs}
-use Rattle.bits.proofs.Bits.{number-testBit}
-use Rattle.predicates.proofs.Words.{word}
-use Rattle.instructions.proofs.CounterLaws.{count-in}
+use Rattle.instructions.proofs.CounterLaws.{length-le, length-small, one-moved, above-is}
 use Rattle.instructions.proofs.counter.count_above.Statement.{statement}
 use Rattle.instructions.proofs.counter.count_above.Tie as tie
 
+predicate-length-requires : tie.Need-predicate-length-requires
+predicate-length-requires c κs = search needs
+
+mul-bit-length : tie.Need-mul-bit-length
+mul-bit-length c = omega (arith, c .predicate-length .ensures, length-le (c .before .before .args .vl))
+
+bit-length-requires : tie.Need-bit-length-requires
+bit-length-requires c κs = search needs
+
 array-read-result : tie.Need-array-read-result
 array-read-result c = search needs
+
+shl-result : tie.Need-shl-result
+shl-result c = omega (arith, length-small _ _ _ _ (c .bit-length .ensures) (c .before .predicate-length .ensures) (omega arith))
+
+rem-result : tie.Need-rem-result
+rem-result c =
+    omega (
+      arith,
+      pow-pos (c .bit-length .result),
+      one-moved (c .bit-length .result)
+          (length-small _ _ _ _ (c .bit-length .ensures) (c .before .predicate-length .ensures) (omega arith)),
+    )
 
 add-result : tie.Need-add-result
 add-result c = search needs
@@ -21,21 +36,19 @@ add-result c = search needs
 shr-result : tie.Need-shr-result
 shr-result c = search needs
 
-sub-result : tie.Need-sub-result
-sub-result c = search needs
-
-shl-result : tie.Need-shl-result
-shl-result c = search needs
-
-rem-result : tie.Need-rem-result
-rem-result c = let m = c .before .args .mark in rw (one-mul, mod-eq-of-lt (pow-lt {i = 14 - m} {j = 64} (omega arith))) (pow-pos (14 - m))
-
 returns : tie.Need-returns
-returns c =
-    let m = c .before .args .mark in
-    rw (one-mul, mod-eq-of-lt (pow-lt {i = 14 - m} {j = 64} (omega arith)), add-one) (sym (number-testBit (word (c .before .args .p) 0) _ (14 - m)) ∙ count-in (c .before .args .p) m (omega arith))
+returns c = search (above-is, needs) depth 9
 
 pub count-above-spec : {M : Type 1} → statement M
 count-above-spec =
     tie.close
-    (tie.spec array-read-result add-result shr-result sub-result shl-result rem-result returns)
+    (tie.spec
+    predicate-length-requires
+    mul-bit-length
+    bit-length-requires
+    array-read-result
+    shl-result
+    rem-result
+    add-result
+    shr-result
+    returns)

@@ -1,78 +1,88 @@
-use mathlib.Core.Bool.{Bool}
-use mathlib.Core.Logic.{⊎-elim}
-use mathlib.Core.Path.{_≡_, sym, ap, ap₂, _∙_}
-use Prim.Native.Nat.{ℕ, _-_, _*_, _%_, _^_, _≤_}
+-- `count_expanded` meets its contract. Assumes nothing.
 use native.Mathlib.Omega.{arith}
-use lib.Pow.{shl-exact}
 use borrow.Author.Needs.{needs}
-use Rattle.bits.specs.Search.{count}
-use Rattle.bits.specs.Size.{shift}
-use Rattle.bits.proofs.Searches.{count-le}
 use Rattle.bits.proofs.Sizes.{shift-lt}
-use Rattle.instructions.specs.Counter.{expanded}
-use Rattle.instructions.proofs.CounterLaws.{count-first, count-hit, count-miss}
+use Rattle.instructions.proofs.CounterLaws.{none-is, plain-is, inverted-is, end-fits, held-fits, size-lt, larger-lt, fewer}
 use Rattle.instructions.proofs.counter.count_expanded.Statement.{statement}
 use Rattle.instructions.proofs.counter.count_expanded.Tie as tie
 
--- `count_expanded` meets its contract. The invariant: n is the count of the first e elements. Assumes nothing.
+array-read-word : tie.Need-array-read-word
+array-read-word c = search needs
 
-abbrev Inv-loop : tie.InvT-loop
-Inv-loop p g vl k n₀ e₀ n e = (e ≤ g) × (n ≡ count (λ i. expanded vl p (i * 2 ^ k)) e)
+lowest-bit-requires : tie.Need-lowest-bit-requires
+lowest-bit-requires c κs = search needs
 
-abbrev μ-loop : tie.MeasureT-loop
-μ-loop p g vl k n₀ e₀ n e = g - e
+returns : tie.Need-returns
+returns c =
+    let a = c .before .before .before .args in
+    none-is (a .p) (a .size) (a .vl) (a .g) _ (c .before .lowest-bit .ensures) (omega arith)
 
-shift-requires : tie.Need-shift-requires Inv-loop μ-loop
+shift-requires : tie.Need-shift-requires
 shift-requires c κs = search needs
 
-loop-holds : tie.Need-loop-holds Inv-loop μ-loop
-loop-holds c = (omega arith, count-first (λ i. expanded (c .before .args .vl) (c .before .args .p) (i * 2 ^ c .shift .result)))
+greatest-requires : tie.Need-greatest-requires
+greatest-requires c κs = search needs
 
-shl-is-expanded : tie.Need-shl-is-expanded Inv-loop μ-loop
-shl-is-expanded c = omega (arith, shift-lt (c .before .before .before .args .size))
+shl-least : tie.Need-shl-least
+shl-least c = omega (arith, c .before .shift .ensures, shift-lt (c .before .before .before .before .before .args .size))
 
-is-expanded-requires : tie.Need-is-expanded-requires Inv-loop μ-loop
-is-expanded-requires c κs = search needs
+mark-end-requires : tie.Need-mark-end-requires
+mark-end-requires c κs = search needs
 
-add-n : tie.Need-add-n Inv-loop μ-loop
-add-n c =
-    let s = c .before .before .before .before .before in
-    omega (arith, count-le (λ i. expanded (s .args .vl) (s .args .p) (i * 2 ^ c .before .before .before .before .shift .result)) (c .before .before .before .loop .e))
+least-requires : tie.Need-least-requires
+least-requires c κs = search needs
 
-add-e : tie.Need-add-e Inv-loop μ-loop
-add-e c = search needs
+count-above-requires : tie.Need-count-above-requires
+count-above-requires c κs = search needs
 
-loop-less : tie.Need-loop-less Inv-loop μ-loop
-loop-less c = search needs
+shl-least-2 : tie.Need-shl-least-2
+shl-least-2 c = search needs
 
-loop-again : tie.Need-loop-again Inv-loop μ-loop
-loop-again c =
-    let s = c .before .before .before .before .before in
-    let k = c .before .before .before .before .shift .result in
-    let e = c .before .before .before .loop .e in
-    let f : ℕ → Bool = λ i. expanded (s .args .vl) (s .args .p) (i * 2 ^ k) in
-    let place : (e * 2 ^ k) % 2 ^ 64 ≡ e * 2 ^ k = shl-exact 11 k 64 (omega arith) (omega (arith, shift-lt (s .args .size))) in
-    let now : c .before .is-expanded .result ≡ f e = c .before .is-expanded .ensures ∙ ap (expanded (s .args .vl) (s .args .p)) place in
-    (omega arith, ⊎-elim (λ w. w .1 ∙ count-hit f e _ (c .before .before .before .loop .inv .1) (sym now ∙ w .0 .taken)) (λ w. w .1 ∙ count-miss f e _ (c .before .before .before .loop .inv .1) (sym now ∙ w .0 .left)) (c .if1 .came))
+least-requires-2 : tie.Need-least-requires-2
+least-requires-2 c κs = search needs
 
-returns : tie.Need-returns Inv-loop μ-loop
-returns c =
-    let s = c .before .before .before in
-    let last : c .before .loop .e ≡ s .args .g = omega arith in
-    c .before .loop .inv .1 ∙ ap₂ (λ (k g : ℕ). count (λ i. expanded (s .args .vl) (s .args .p) (i * 2 ^ k)) g) (c .before .before .shift .ensures) last
+starts-below-requires : tie.Need-starts-below-requires
+starts-below-requires c κs = search (held-fits, larger-lt, size-lt, needs) depth 9
+
+starts-below-requires-2 : tie.Need-starts-below-requires-2
+starts-below-requires-2 c κs = search (end-fits, larger-lt, size-lt, needs) depth 9
+
+sub-result : tie.Need-sub-result
+sub-result c = search (fewer, needs) depth 9
+
+returns-2 : tie.Need-returns-2
+returns-2 c =
+    let r = c .before .before .before .before .before .before .before in
+    let a = r .before .before .before .before .before .args in
+    inverted-is (a .p) (a .size) (a .vl) (a .g) _ _ _ _ _ _ _ _ _ (c .before .before .starts-below .ensures) (c .starts-below2 .ensures) (r .greatest .ensures) (c .before .before .before .least2 .ensures)
+    (c .before .before .before .before .count-above .ensures) (c .before .before .before .before .before .least .ensures) (c .before .before .before .before .before .before .mark-end .ensures) (r .before .shift .ensures)
+    (r .before .before .before .lowest-bit .ensures) (omega arith) (omega arith) (c .before .if2 .taken)
+
+returns-3 : tie.Need-returns-3
+returns-3 c =
+    let r = c .before .before .before .before .before .before in
+    let a = r .before .before .before .before .before .args in
+    plain-is (a .p) (a .size) (a .vl) (a .g) _ _ _ _ _ _ _ _ (c .before .starts-below .ensures) (r .greatest .ensures) (c .before .before .least2 .ensures)
+    (c .before .before .before .count-above .ensures) (c .before .before .before .before .least .ensures) (c .before .before .before .before .before .mark-end .ensures) (r .before .shift .ensures)
+    (r .before .before .before .lowest-bit .ensures) (omega arith) (omega arith) (c .if2 .left)
 
 pub count-expanded-spec : {M : Type 1} → statement M
 count-expanded-spec =
     tie.close
     (tie.spec
-    Inv-loop
-    μ-loop
+    array-read-word
+    lowest-bit-requires
+    returns
     shift-requires
-    loop-holds
-    shl-is-expanded
-    is-expanded-requires
-    add-n
-    add-e
-    loop-less
-    loop-again
-    returns)
+    greatest-requires
+    shl-least
+    mark-end-requires
+    least-requires
+    count-above-requires
+    shl-least-2
+    least-requires-2
+    starts-below-requires
+    starts-below-requires-2
+    sub-result
+    returns-2
+    returns-3)
