@@ -187,22 +187,19 @@ module _ (p : Predicate) (vl k g m : ℕ) (mark : m ≡ firstFrom (testBit (word
   bounds : (a b c : ℕ) → min (min a c) b ≡ min (min a b) c
   bounds a b c = omega arith
 
-  below-count : count (λ b. (elementBit (max k m) b && ltb b end) && ltb b held) (g * 2 ^ k) ≡ count (elementBit (max k m)) (min (min (g * 2 ^ k) end) held)
-  below-count =
-      count-below (λ b. elementBit (max k m) b && ltb b end) held (g * 2 ^ k)
-      ∙ count-below (elementBit (max k m)) end (min (g * 2 ^ k) held) ∙ ap (count (elementBit (max k m))) (bounds (g * 2 ^ k) end held)
+  below-both : count (λ b. elementBit (max k m) b && ltb b end) (min (g * 2 ^ k) held) ≡ count (elementBit (max k m)) (min (min (g * 2 ^ k) end) held)
+  below-both = count-below (elementBit (max k m)) end (min (g * 2 ^ k) held) ∙ ap (count (elementBit (max k m))) (bounds (g * 2 ^ k) end held)
 
   pub plain-counted : testBit (word p 0) 15 ≡ false
       → count (elementBit (max k m)) (min (min (g * 2 ^ k) end) held) ≡ count (λ e. expanded vl p (e * 2 ^ k)) g
-  plain-counted i = sym (by-bits false i ∙ below-count)
+  plain-counted i = sym (by-bits false i ∙ count-below (λ b. elementBit (max k m) b && ltb b end) held (g * 2 ^ k) ∙ below-both)
 
   pub inverted-counted : testBit (word p 0) 15 ≡ true
       → count (elementBit (max k m)) (min (g * 2 ^ k) end) - count (elementBit (max k m)) (min (min (g * 2 ^ k) end) held) ≡ count (λ e. expanded vl p (e * 2 ^ k)) g
   inverted-counted i =
       sym (by-bits true i
       ∙ count-not-below (λ b. elementBit (max k m) b && ltb b end) held (g * 2 ^ k)
-      ∙ ap₂ (λ (x y : ℕ). x - y) (count-below (elementBit (max k m)) end (g * 2 ^ k))
-      (count-below (elementBit (max k m)) end (min (g * 2 ^ k) held) ∙ ap (count (elementBit (max k m))) (bounds (g * 2 ^ k) end held)))
+      ∙ ap₂ (λ (x y : ℕ). x - y) (count-below (elementBit (max k m)) end (g * 2 ^ k)) below-both)
 
 -- ---- what `count_expanded` answers, from what its callees do
 
@@ -264,6 +261,9 @@ larger-lt k m s e hk hm =
 pub fewer : (s e x h n a : ℕ) → n ≡ count (elementBit s) h → a ≡ count (elementBit s) e → h ≡ min e x → n ≤ a
 fewer s e x h n a hn ha hh = omega (arith, count-mono (elementBit s) h e (omega arith))
 
+pub group-most : (four : Bool) (n : ℕ) → groupOf four n ≤ 4 * n
+group-most true n = omega arith
+group-most false n = omega arith
+
 pub group-le : (four : Bool) (n : ℕ) → n ≤ 256 → groupOf four n ≤ 1024
-group-le true n h = omega arith
-group-le false n h = omega arith
+group-le four n h = omega (arith, group-most four n)

@@ -17,6 +17,7 @@ use Rattle.bits.specs.Search.{count, afterLast, scan}
 use Rattle.bits.specs.Size.{shift}
 use Rattle.bits.proofs.Bits.{number-padded, testBit-zero}
 use Rattle.bits.proofs.Counts.{last-of-power}
+use Rattle.bits.proofs.Searches.{never}
 use Rattle.bits.proofs.Sizes.{power-parts}
 use Rattle.predicates.specs.declared.Predicate.{Predicate}
 use Rattle.predicates.specs.Predicate.{bitAt, pack, spread, predicateLength, elements}
@@ -26,7 +27,7 @@ use Rattle.predicates.proofs.Words.{pack-bit}
 use Rattle.scalars.specs.declared.Condition.{Condition}
 use Rattle.scalars.specs.While.{upward, comparison, heldOf}
 use Rattle.instructions.specs.Counter.{groupOf, counterOf, markOf, countEnd, counterElement, expanded, whileCounterOf, cntpCounterOf}
-use Rattle.instructions.proofs.CounterLaws.{counter-cases, count-end-le}
+use Rattle.instructions.proofs.CounterLaws.{group-most, counter-cases, count-end-le}
 use Rattle.instructions.proofs.WhileLaws.{held-le}
 
 -- a counter expanded by the count up to bit 14
@@ -73,10 +74,6 @@ clear-between inverted v e b h l m =
 abbrev pub written : Bool → Bool → Size → ℕ → ℕ → Predicate
 written up four size n vl = pack (testBit (counterOf up (groupOf four (elements vl size)) n (shift size)))
 
-group-le : (four : Bool) (n : ℕ) → groupOf four n ≤ 4 * n
-group-le true n = omega arith
-group-le false n = omega arith
-
 written-clear : (i : ℕ) → i ≤ 4 → (up four : Bool) (size : Size) (n : ℕ) → n ≤ groupOf four (elements (128 * 2 ^ i) size)
     → (b : ℕ) → 6 + i < b → b < 15 → bitAt (written up four size n (128 * 2 ^ i)) b ≡ false
 written-clear i h up four size n upto b l m =
@@ -85,7 +82,7 @@ written-clear i h up four size n upto b l m =
     pack-bit _ b (omega arith)
     ∙ counter-cases (λ w. testBit w b ≡ false) up (groupOf four e) n k upto (testBit-zero b)
     (λ inverted c small. clear-between inverted ((c * 2 + 1) * 2 ^ k) (6 + i) b
-    (let fits : (c * 2 + 1) * 2 ^ k < 8 * e * 2 ^ k = mul-lt-mul-of-pos-right (omega (arith, group-le four e)) (pow-pos k) in
+    (let fits : (c * 2 + 1) * 2 ^ k < 8 * e * 2 ^ k = mul-lt-mul-of-pos-right (omega (arith, group-most four e)) (pow-pos k) in
     omega (arith, mul-assoc 8 e (2 ^ k), elements-within (128 * 2 ^ i) size, four-lengths i h, pow-suc 2 (6 + i))) l m)
 
 -- over direction, group, size, count and vector length: each bit of the one expansion is that of the other
@@ -103,7 +100,7 @@ while-alike i h c unsigned four size rn rm =
     let held = comparison w64 unsigned c rn rm in
     written-alike i h (upward c) four size (heldOf held g) (held-le held g)
 
--- ---- 0081: at VL 256 a WHILE writes it, and it reads alike there; at VL 128 none does, and it does not
+-- ---- 0081: a WHILE writes it at VL 256, and it reads alike there; at VL 128 it does not, and so no WHILE writes it
 
 abbrev junk : Predicate
 junk = pack (testBit 0x81)
@@ -123,6 +120,15 @@ cntp-of-junk = refl
 cntp-of-junk-to-14 : count (λ e. expandedTo14 128 junk (e * 2 ^ shift Sz.B)) (groupOf true (elements 128 Sz.B)) ≡ 64
 unfolding expandedTo14 count scan testBit number elementBit bitAt pack spread elements predicateLength
 cntp-of-junk-to-14 = refl
+
+apart-at-128 : (expandedTo14 128 junk 0 ≡ true) × (expanded 128 junk 0 ≡ false)
+unfolding expandedTo14 expanded countEnd afterLast scan testBit number elementBit bitAt pack spread predicateLength
+apart-at-128 = (refl, refl)
+
+unwritten-at-128 : (up four : Bool) (size : Size) (n : ℕ) → n ≤ groupOf four (elements 128 size) → written up four size n 128 ≡ junk → ⊥
+unwritten-at-128 up four size n upto e =
+    let alike = written-alike 0 (omega arith) up four size n upto 0 in
+    never (sym (ap (λ (p : Predicate). expanded 128 p 0) e) ∙ sym alike ∙ ap (λ (p : Predicate). expandedTo14 128 p 0) e ∙ apart-at-128 .0) (apart-at-128 .1)
 
 -- ---- the lengths are 128 times a power of two: at VL 384, of 192 elements, 128 read as none
 

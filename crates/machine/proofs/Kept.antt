@@ -42,7 +42,7 @@ use Rattle.instructions.specs.Instructions.{whileOf, computeOf}
 use Rattle.instructions.specs.Operands.{registersOf}
 use Rattle.instructions.specs.Whiles.{allHeld, whileElement, lowHalf, highHalf, whileOneOf, whilePairOf}
 use Rattle.scalars.specs.While.{upward, comparison, heldOf}
-use Rattle.instructions.proofs.CounterLaws.{counter-cases}
+use Rattle.instructions.proofs.CounterLaws.{group-most, counter-cases}
 use Rattle.instructions.proofs.WhileLaws.{held-le}
 use Rattle.instructions.proofs.LogicLaws.{logic-within}
 use Rattle.machine.specs.Execute.{valuesOf, apply, executeOf}
@@ -76,10 +76,6 @@ stored-lt inverted n e k h f =
     let same : 8 * e * 2 ^ k ≡ 8 * (e * 2 ^ k) = mul-assoc 8 e (2 ^ k) in
     omega (arith, digit-lt inverted)
 
-group-le : (four : Bool) (n : ℕ) → groupOf four n ≤ 4 * n
-group-le true n = omega arith
-group-le false n = omega arith
-
 counter-lt : (up : Bool) (g n e k : ℕ) → n ≤ g → g ≤ 4 * e → e * 2 ^ k ≤ 256 → counterOf up g n k < 2 ^ 16
 counter-lt up g n e k h l f = counter-cases (λ w. w < 2 ^ 16) up g n k h (omega arith) (λ inverted m small. stored-lt inverted m e k (omega arith) f)
 
@@ -111,7 +107,7 @@ module _ (s : State) (ok : legal s ≡ true) (sized : Sized s) where
   while-within c u (Counter four pnd) size a b =
       let n = elements (s .vl) size in
       let g = groupOf four n in
-      let count-lt = counter-lt (upward c) g (heldOf (comparison w64 u c a b) g) n (shift size) (held-le (comparison w64 u c a b) g) (group-le four n) (elements-fit (s .vl) size) in
+      let count-lt = counter-lt (upward c) g (heldOf (comparison w64 u c a b) g) n (shift size) (held-le (comparison w64 u c a b) g) (group-most four n) (elements-fit (s .vl) size) in
       record { pd = word-within (predicateLength (s .vl)) _ (lt-of-lt-of-le count-lt (pow-mono {i = 16} {j = predicateLength (s .vl)} pl-large)); pd2 = none }
 
   next-within : (size : Size) (v dn : Predicate) → hasBitFrom (predicateLength (s .vl)) (nextResult size v dn (s .vl)) ≡ false
