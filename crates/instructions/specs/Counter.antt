@@ -41,7 +41,7 @@ counterFlags up g n = record {
 abbrev pub markOf : Predicate → ℕ
 markOf p = firstFrom (bitAt p) 0 4
 
--- the bit at which the count ends: the highest set bit of 4 PL
+-- the bit at which the count ends: the position of the highest set bit of 4 PL, which `afterLast` gives plus 1
 unfoldable pub countEnd : ℕ → ℕ
 countEnd vl = afterLast (testBit (4 * predicateLength vl)) 64 - 1
 

@@ -1,9 +1,10 @@
 -- A counter that an executed WHILE leaves in its register reads, at the state's vector length, as it would with a count up to bit 14. Assumes nothing.
 use mathlib.Core.Bool.{Bool, true}
-use mathlib.Core.Path.{_≡_, sym, ap, _∙_, subst}
+use mathlib.Core.Path.{_≡_, sym, _∙_, subst}
 use Prim.Native.Nat.{ℕ, _+_, _<_}
 use native.Mathlib.Omega.{arith}
 use Rattle.bits.specs.declared.Size.{Size}
+use Rattle.predicates.specs.declared.Predicate.{Predicate}
 use Rattle.registers.specs.declared.State.{State}
 use Rattle.registers.specs.Legal.{legal}
 use Rattle.registers.specs.State.{readX, readP, withX, withFlags}
@@ -14,20 +15,24 @@ use Rattle.words.specs.declared.Instruction.the-variants.{While}
 use Rattle.words.specs.declared.Target.the-variants.{Counter}
 use Rattle.instructions.specs.Counter.{expanded, whileCounterOf}
 use Rattle.instructions.specs.Instructions.{computeOf}
+use Rattle.instructions.specs.Operands.{none}
 use Rattle.instructions.proofs.Readings.{expandedTo14, while-alike}
 use Rattle.machine.specs.Execute.{apply, executeOf}
 
 module _ (s : State) (sized : Sized s) (c : Condition) (unsigned four : Bool) (size : Size) (rn rm pnd : ℕ) (small : pnd < 8) where
-  counter-written : readP (executeOf s (While c unsigned (Counter four pnd) size rn rm)) (8 + pnd) ≡ whileCounterOf c unsigned four size (readX s rn) (readX s rm) (s .vl) .pd
-  unfolding executeOf apply computeOf withX withFlags
-  counter-written = readP-other _ 255 (8 + pnd) _ (omega arith) ∙ readP-same _ (8 + pnd) _ (omega (arith, sized .ps))
+  abbrev after : State
+  after = executeOf s (While c unsigned (Counter four pnd) size rn rm)
 
-  pub counter-reads-alike : legal s ≡ true → (b : ℕ)
-      → expandedTo14 (s .vl) (readP (executeOf s (While c unsigned (Counter four pnd) size rn rm)) (8 + pnd)) b
-      ≡ expanded (s .vl) (readP (executeOf s (While c unsigned (Counter four pnd) size rn rm)) (8 + pnd)) b
+  -- what WHILE gives at a vector length
+  abbrev given : ℕ → Predicate
+  given vl = whileCounterOf c unsigned four size (readX s rn) (readX s rm) vl .pd
+
+  -- the register has it
+  counter-written : readP after (8 + pnd) ≡ given (s .vl)
+  unfolding executeOf apply computeOf withX withFlags
+  counter-written = readP-other _ none (8 + pnd) _ (omega arith) ∙ readP-same _ (8 + pnd) _ (omega (arith, sized .ps))
+
+  pub counter-reads-alike : legal s ≡ true → (b : ℕ) → expandedTo14 (s .vl) (readP after (8 + pnd)) b ≡ expanded (s .vl) (readP after (8 + pnd)) b
   counter-reads-alike ok b =
       let (i, e, l) = powers (s .vl) (legal-has s ok .len) in
-      ap (λ p. expandedTo14 (s .vl) p b) counter-written
-      ∙ subst (λ v. expandedTo14 v (whileCounterOf c unsigned four size (readX s rn) (readX s rm) v .pd) b ≡ expanded v (whileCounterOf c unsigned four size (readX s rn) (readX s rm) v .pd) b) (sym e)
-      (while-alike i l c unsigned four size (readX s rn) (readX s rm) b)
-      ∙ sym (ap (λ p. expanded (s .vl) p b) counter-written)
+      rw counter-written (subst (λ v. expandedTo14 v (given v) b ≡ expanded v (given v) b) (sym e) (while-alike i l c unsigned four size (readX s rn) (readX s rm) b))
