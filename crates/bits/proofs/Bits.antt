@@ -3,16 +3,17 @@ use mathlib.Core.Bool.{Bool, true, false, not, _&&_, _||_, Bool·beq}
 use mathlib.Core.Path.{_≡_, refl, sym, ap, ap₂, _∙_}
 use Prim.Native.Nat.{ℕ, zero, suc, _+_, _-_, _*_, _/_, _%_, _^_, _≤_, _<_, zero-le, min}
 use native.Mathlib.Decide.{decLt}
-use native.Mathlib.Nat.{add-zero, add-suc, suc-add, pow-suc, pow-zero, pow-succ', div-div-eq-div-mul, div-one, zero-div, mod-eq-of-lt, mod-one, mod-lt}
+use native.Mathlib.Nat.{add-zero, add-suc, suc-add, pow-suc, pow-zero, pow-succ', div-div-eq-div-mul, div-one, zero-add, zero-div, mul-assoc, mul-mod-left, mod-eq-of-lt, mod-one, mod-lt}
 use native.Mathlib.Numerals.{add-one}
 use native.Mathlib.Omega.{arith}
 use lib.Bits.{bitAnd, bitOr, bitXor, and-block, or-block, xor-block}
-use lib.Dec.{eqb}
-use lib.Pow.{pow-pos, mod-pow-add, shr-shr, ones-split, ones-lt, high}
-use borrow.Author.Tests.{lt-ltb, le-ltb, eq-eqb, ne-eqb}
+use lib.Dec.{eqb, leb}
+use lib.Pow.{pow-pos, mod-pow-add, shl-shr, shr-shr, ones-split, ones-lt, high}
+use borrow.Author.Tests.{lt-ltb, le-ltb, le-leb, lt-leb, eq-eqb, ne-eqb}
 use Rattle.bits.specs.Bits.{testBit, number, below}
 use Rattle.bits.specs.Choice.{digit}
 use Rattle.bits.proofs.Searches.{digit-lt}
+use Rattle.bits.proofs.Sizes.{power-parts}
 
 digit-is : (b : Bool) → eqb (digit b) 1 ≡ b
 digit-is true = refl
@@ -135,6 +136,33 @@ number-or = number-op _||_ bitOr refl or-digits (or-block 1)
 
 pub number-xor : (f g : ℕ → Bool) (at n : ℕ) → number (λ i. not (Bool·beq (f i) (g i))) at n ≡ bitXor (number f at n) (number g at n)
 number-xor = number-op (λ a b. not (Bool·beq a b)) bitXor refl xor-digits (xor-block 1)
+
+pub testBit-and : (a b n i : ℕ) → a < 2 ^ n → b < 2 ^ n → i < n → testBit (bitAnd a b) i ≡ (testBit a i && testBit b i)
+testBit-and a b n i ha hb h =
+    ap (λ (w : ℕ). testBit w i) (sym (number-and (testBit a) (testBit b) 0 n ∙ ap₂ bitAnd (number-whole a n ha) (number-whole b n hb)))
+    ∙ testBit-number (λ j. testBit a j && testBit b j) 0 n i h ∙ ap (λ (j : ℕ). testBit a j && testBit b j) (zero-add i)
+
+-- ---- the bits from a bit on
+
+-- a number shifted right and back keeps its bits from s on, and no other
+pub testBit-from : (w s i : ℕ) → testBit (w / 2 ^ s * 2 ^ s) i ≡ (leb s i && testBit w i)
+unfolding testBit
+testBit-from w s i = elim (decLt i s) [ yes l ↦ lost l | no l ↦ kept (omega arith) ]
+  where
+    lost : i < s → eqb (w / 2 ^ s * 2 ^ s / 2 ^ i % 2) 1 ≡ (leb s i && eqb (w / 2 ^ i % 2) 1)
+    lost l =
+        let parts : w / 2 ^ s * 2 ^ s ≡ w / 2 ^ s * 2 ^ (s - suc i) * 2 * 2 ^ i =
+        ap (λ (x : ℕ). w / 2 ^ s * x) (sym (power-parts (suc i) s l)) ∙ sym (mul-assoc (w / 2 ^ s) (2 ^ (s - suc i)) (2 ^ suc i))
+        ∙ ap (λ (x : ℕ). w / 2 ^ s * 2 ^ (s - suc i) * x) (pow-succ' 2 i) ∙ sym (mul-assoc (w / 2 ^ s * 2 ^ (s - suc i)) 2 (2 ^ i)) in
+        ap (λ (x : ℕ). eqb (x / 2 ^ i % 2) 1) parts ∙ ap (λ (x : ℕ). eqb (x % 2) 1) (shl-shr (w / 2 ^ s * 2 ^ (s - suc i) * 2) i)
+        ∙ ap (λ (x : ℕ). eqb x 1) (mul-mod-left (w / 2 ^ s * 2 ^ (s - suc i)) 2) ∙ sym (ap (λ (t : Bool). t && eqb (w / 2 ^ i % 2) 1) (lt-leb s i l))
+
+    kept : s ≤ i → eqb (w / 2 ^ s * 2 ^ s / 2 ^ i % 2) 1 ≡ (leb s i && eqb (w / 2 ^ i % 2) 1)
+    kept l =
+        let e : s + (i - s) ≡ i = omega arith in
+        let apart : (x : ℕ) → x / 2 ^ i ≡ x / 2 ^ s / 2 ^ (i - s) = λ x. sym (shr-shr x s (i - s) ∙ ap (λ (y : ℕ). x / 2 ^ y) e) in
+        ap (λ (x : ℕ). eqb (x % 2) 1) (apart (w / 2 ^ s * 2 ^ s) ∙ ap (λ (x : ℕ). x / 2 ^ (i - s)) (shl-shr (w / 2 ^ s) s) ∙ sym (apart w))
+        ∙ sym (ap (λ (t : Bool). t && eqb (w / 2 ^ i % 2) 1) (le-leb s i l))
 
 -- ---- the bits below a bound
 

@@ -3,7 +3,7 @@ use mathlib.Core.Bool.{Bool, true, false, not, _&&_, and-true, and-false}
 use mathlib.Core.Path.{_≡_, refl, sym, ap, ap₂, _∙_}
 use Prim.Native.Nat.{ℕ, zero, suc, _+_, _-_, _*_, _/_, _%_, _^_, _≤_, _<_, min, max}
 use native.Mathlib.Decide.{decLt, ℕ-discrete}
-use native.Mathlib.Nat.{mul-mod-left, mul-assoc, zero-mul, suc-mul, mod-lt, div-eq-of-lt, max-eq-left, max-eq-right, div-add-mod', div-lt-iff-lt-mul, div-le-self, div-one, mod-one, add-zero, zero-add, mul-lt-mul-of-pos-right, lt-of-lt-of-le}
+use native.Mathlib.Nat.{mul-mod-left, mul-assoc, zero-mul, suc-mul, mod-lt, div-eq-of-lt, max-eq-left, max-eq-right, div-add-mod', div-lt-iff-lt-mul, div-le-self, div-one, mod-one, add-zero, zero-add, mul-lt-mul-of-pos-right, mul-le-mul-left, mul-le-mul-right, div-mul-le-self, le-div-iff-mul-le, le-trans, lt-of-lt-of-le}
 use native.Mathlib.Omega.{arith}
 use lib.Arith.{digits-mod}
 use lib.Bits.{bitAnd}
@@ -12,13 +12,13 @@ use lib.Pow.{pow-pos, ones-lt, shl-shr, split, high}
 use borrow.Author.Tests.{lt-ltb, le-ltb, le-leb, lt-leb, eq-eqb, ne-eqb, eqb-true}
 use Rattle.bits.specs.Bits.{number, below, elementBit}
 use Rattle.bits.specs.Choice.{digit}
-use Rattle.bits.specs.Search.{count, some}
+use Rattle.bits.specs.Search.{count, some, firstFrom}
 use Rattle.bits.proofs.Bits.{number-and, number-cong}
-use Rattle.bits.proofs.Searches.{some-cong, count-cong, count-low, count-add, count-none}
+use Rattle.bits.proofs.Searches.{never, First, first-found, first-is, first-end, some-cong, count-cong, count-low, count-add, count-none}
 use Rattle.bits.proofs.Sizes.{element-again, power-parts}
 use Rattle.predicates.specs.declared.Predicate.{Predicate}
 use Rattle.predicates.specs.Predicate.{bitAt, pack, active, spread, between, spanOf, hasBitFrom}
-use Rattle.predicates.proofs.Words.{pack-bit, pack-cong}
+use Rattle.predicates.proofs.Words.{Words, bit-past, pack-bit, pack-cong}
 
 -- ---- an element's lowest bit
 
@@ -32,6 +32,14 @@ unfolding elementBit
 start-of k b h =
     let e : b % 2 ^ k ≡ 0 = eqb-true (b % 2 ^ k) 0 h in
     sym (add-zero (b / 2 ^ k * 2 ^ k)) ∙ ap (λ (x : ℕ). b / 2 ^ k * 2 ^ k + x) (sym e) ∙ div-add-mod' b (2 ^ k)
+
+-- what holds of an element's lowest bit, at the bits that elements start at
+pub at-start : (k : ℕ) (f : ℕ → Bool) (b : ℕ) → (elementBit k b && f (b / 2 ^ k * 2 ^ k)) ≡ (elementBit k b && f b)
+at-start k f b = at (elementBit k b) refl
+  where
+    at : (t : Bool) → elementBit k b ≡ t → (t && f (b / 2 ^ k * 2 ^ k)) ≡ (t && f b)
+    at false e = refl
+    at true e = ap f (start-of k b e)
 
 pub spread-at : (k : ℕ) (q : ℕ → Bool) (e : ℕ) → spread k q (e * 2 ^ k) ≡ q e
 unfolding spread
@@ -57,6 +65,15 @@ scaled k m b =
 -- a bit of an element below n
 pub in-bits : (k n e : ℕ) → e < n → n * 2 ^ k ≤ 256 → e * 2 ^ k < 256
 in-bits k n e l h = lt-of-lt-of-le (mul-lt-mul-of-pos-right l (pow-pos k)) h
+
+-- past the bits no element is active
+pub active-past : (k : ℕ) (p : Predicate) → Words p → (e : ℕ) → 256 ≤ e * 2 ^ k → active k p e ≡ false
+unfolding active
+active-past k p ok e h = bit-past p ok (e * 2 ^ k) h
+
+-- and element 256 lies past them at every size
+pub past-bits : (k e : ℕ) → 256 ≤ e → 256 ≤ e * 2 ^ k
+past-bits k e h = le-trans (omega arith) (mul-le-mul-left e (pow-pos k))
 
 -- ---- where elements start
 
@@ -86,11 +103,7 @@ count-spread k q (suc n) =
 -- elements counted by the bits that they start at
 pub count-at-bits : (k : ℕ) (f : ℕ → Bool) (n : ℕ) → count (λ e. f (e * 2 ^ k)) n ≡ count (λ b. elementBit k b && f b) (n * 2 ^ k)
 unfolding spread
-count-at-bits k f n = sym (count-spread k (λ e. f (e * 2 ^ k)) n) ∙ count-cong _ _ (n * 2 ^ k) (λ b l. at b (elementBit k b) refl)
-  where
-    at : (b : ℕ) (t : Bool) → elementBit k b ≡ t → (t && f (b / 2 ^ k * 2 ^ k)) ≡ (t && f b)
-    at b false e = refl
-    at b true e = ap f (start-of k b e)
+count-at-bits k f n = sym (count-spread k (λ e. f (e * 2 ^ k)) n) ∙ count-cong _ _ (n * 2 ^ k) (λ b l. at-start k f b)
 
 -- a division that rounds up grows where an element starts
 up-next : (k b : ℕ) → (suc b + (2 ^ k - 1)) / 2 ^ k ≡ (b + (2 ^ k - 1)) / 2 ^ k + digit (elementBit k b)
@@ -141,6 +154,55 @@ both-start k j b =
     smaller-second : (t s : Bool) → (t ≡ true → s ≡ true) → (t && s) ≡ t
     smaller-second true s h = h refl
     smaller-second false s h = refl
+
+-- ---- the next element, by the bits that elements start at
+
+-- a bit that is found stands for the first true element
+element-found : (k : ℕ) (q : ℕ → Bool) (start b : ℕ) → First (spread k q) (start * 2 ^ k) 256 b → b < 256 → First q start (suc (b / 2 ^ k)) (b / 2 ^ k)
+unfolding spread
+element-found k q start b r h =
+    record {
+      from = le-div-iff-mul-le (pow-pos k) .1 (r .from);
+      upto = omega arith;
+      none = λ e l m. sym (spread-at k q e) ∙ r .none (e * 2 ^ k) (mul-le-mul-right (2 ^ k) l) (lt-of-lt-of-le (mul-lt-mul-of-pos-right m (pow-pos k)) (div-mul-le-self b (2 ^ k)));
+      hit = λ l. second (elementBit k b) (q (b / 2 ^ k)) (r .hit h);
+    }
+  where
+    second : (s t : Bool) → (s && t) ≡ true → t ≡ true
+    second true t e = e
+    second false t e = never e refl
+
+-- the search among n elements, by the bit that the search among bits has found: it is of an element below n, or of one past them, or there is none
+module _ (k : ℕ) (q : ℕ → Bool) (start n b : ℕ) (found : b ≡ firstFrom (spread k q) (start * 2 ^ k) 256) where
+  from-bits : start * 2 ^ k ≤ 256 → First (spread k q) (start * 2 ^ k) 256 b
+  from-bits h = rw (← found) at (first-found (spread k q) (start * 2 ^ k) 256 h)
+
+  -- a start past the bits would be what is found
+  start-within : b < 256 → start * 2 ^ k ≤ 256
+  start-within h = elim (decLt 256 (start * 2 ^ k)) [ yes l ↦ absurd (omega (arith, found, first-end (spread k q) (start * 2 ^ k) 256 (omega arith))) | no l ↦ omega arith ]
+
+  pub next-within : b < 256 → b / 2 ^ k < n → b / 2 ^ k ≡ firstFrom q start n
+  next-within h l =
+      let r = element-found k q start b (from-bits (start-within h)) h in
+      first-is q start n (b / 2 ^ k) (record { from = r .from; upto = omega arith; none = r .none; hit = λ m. r .hit (omega arith) })
+
+  pub next-beyond : b < 256 → start ≤ n → n ≤ b / 2 ^ k → n ≡ firstFrom q start n
+  next-beyond h s l =
+      let r = element-found k q start b (from-bits (start-within h)) h in
+      first-is q start n n (record { from = s; upto = omega arith; none = λ e a m. r .none e a (omega arith); hit = λ m. absurd (omega arith) })
+
+  -- elements past the bits are false
+  pub next-none : ((e : ℕ) → 256 ≤ e * 2 ^ k → q e ≡ false) → start ≤ n → 256 ≤ b → n ≡ firstFrom q start n
+  next-none past s h =
+      first-is q start n n (record { from = s; upto = omega arith; none = λ e a m. at e a; hit = λ m. absurd (omega arith) })
+    where
+      at : (e : ℕ) → start ≤ e → q e ≡ false
+      at e a =
+          let l : start * 2 ^ k ≤ e * 2 ^ k = mul-le-mul-right (2 ^ k) a in
+          elim (decLt (e * 2 ^ k) 256) [
+            | yes m ↦ sym (spread-at k q e) ∙ from-bits (omega arith) .none (e * 2 ^ k) l (omega arith)
+            | no m ↦ past e (omega arith)
+          ]
 
 -- ---- spans
 

@@ -1,22 +1,26 @@
 -- Searches among a predicate's bits, a word at a time. Assumes nothing.
-use mathlib.Core.Bool.{Bool, true, false, not, _&&_}
+use mathlib.Core.Bool.{Bool, true, false, not, _&&_, and-comm}
 use mathlib.Core.Logic.{_⊎_, inl, inr}
-use mathlib.Core.Path.{_≡_, sym, ap, _∙_}
+use mathlib.Core.Path.{_≡_, refl, sym, ap, ap₂, _∙_}
 use Prim.Native.Nat.{ℕ, suc, _+_, _-_, _*_, _/_, _%_, _^_, _≤_, _<_}
 use native.Mathlib.Decide.{decLt, ℕ-discrete}
-use native.Mathlib.Nat.{mod-eq-of-lt}
+use native.Mathlib.Nat.{mod-eq-of-lt, mod-lt, zero-add}
 use native.Mathlib.Omega.{arith}
-use lib.Bits.{bitOr, or-add-and, and-le-l, and-le-r}
-use lib.Dec.{ltb, eqb}
+use lib.Arith.{digits-mod}
+use lib.Bits.{bitAnd, bitOr, or-add-and, and-le-l, and-le-r}
+use lib.Dec.{ltb, leb, eqb}
 use lib.ListN.{List·getD-eq-default}
-use borrow.Author.Tests.{lt-ltb, eq-eqb, ne-eqb}
-use Rattle.bits.specs.Bits.{testBit, number}
+use lib.Pow.{split}
+use borrow.Author.Tests.{lt-ltb, le-leb, lt-leb, leb-true, eq-eqb, ne-eqb}
+use Rattle.bits.specs.Bits.{testBit, number, elementBit}
 use Rattle.bits.specs.Search.{count, some, firstFrom, afterLast}
-use Rattle.bits.proofs.Bits.{number-none, number-whole, testBit-zero}
-use Rattle.bits.proofs.Searches.{count-add, count-cong, count-none, some-yes, some-no, First, first-found, first-is, Last, last-found, last-is, last-le}
+use Rattle.bits.proofs.Bits.{number-none, number-whole, testBit-zero, testBit-number, testBit-and, testBit-from}
+use Rattle.bits.proofs.Searches.{never, count-add, count-cong, count-none, some-yes, some-no, First, first-found, first-is, first-cong, Last, last-found, last-is, last-le}
+use Rattle.bits.proofs.Sizes.{element-again}
 use Rattle.predicates.specs.declared.Predicate.{Predicate}
 use Rattle.predicates.specs.PredTest.{atLowest, atHighest}
-use Rattle.predicates.specs.Predicate.{bitAt}
+use Rattle.predicates.specs.Predicate.{bitAt, active, spread}
+use Rattle.predicates.proofs.ElementBits.{at-start}
 use Rattle.predicates.proofs.Words.{Words, word, bit-in-word, bit-of-none}
 
 -- ---- words that are 0
@@ -97,6 +101,120 @@ highest-in p q x h z side e =
     hit : (0 < afterLast (testBit (word p q)) 64) ⊎ (q ≡ 0) → Last (testBit (word p q)) 64 (afterLast (testBit (word p q)) 64) → (b : ℕ) → x ≡ suc b → bitAt p b ≡ true
     hit (inl k) r b s = top r b s k
     hit (inr k) r b s = top r b s (omega arith)
+
+-- ---- the lowest bit from a bit on, under a mask
+
+-- the bits of a predicate that a mask has too; the mask is the same for each word
+abbrev pub under : Predicate → ℕ → ℕ → Bool
+under p mask b = testBit mask (b % 64) && bitAt p b
+
+-- how far a search from bit `from` has come: the words before word q have no such bit, and w is what is left of word q
+pub record Reached (p : Predicate) (mask from q w : ℕ) : Type 0 where
+  pub place : q < 4
+  pub after : from < q * 64 + 64
+  pub none : (b : ℕ) → from ≤ b → b < q * 64 → under p mask b ≡ false
+  pub left : (i : ℕ) → i < 64 → testBit w i ≡ (leb from (q * 64 + i) && under p mask (q * 64 + i))
+  pub fits : w < 2 ^ 64
+
+-- a bit of word q under the mask
+masked-word : (p : Predicate) → Words p → (mask q i : ℕ) → mask < 2 ^ 64 → i < 64 → testBit (bitAnd (word p q) mask) i ≡ under p mask (q * 64 + i)
+masked-word p ok mask q i m h =
+    testBit-and (word p q) mask 64 i (ok .fit q) m h ∙ and-comm (testBit (word p q) i) (testBit mask i)
+    ∙ ap₂ (λ (x : ℕ) (t : Bool). testBit mask x && t) (sym (digits-mod q h)) (sym (bit-in-word p q i h))
+
+-- the first word that is looked at, without its bits below `from`
+pub reached-first : (p : Predicate) → Words p → (mask from w : ℕ) → mask < 2 ^ 64 → from < 256
+    → w ≡ (bitAnd (word p (from / 64)) mask / 2 ^ (from % 64) * 2 ^ (from % 64)) % 2 ^ 64 → Reached p mask from (from / 64) w
+reached-first p ok mask from w m h e =
+    record {
+      place = omega arith;
+      after = omega arith;
+      none = λ b a l. absurd (omega arith);
+      left = λ i l. ap (λ (x : ℕ). testBit x i) (e ∙ mod-eq-of-lt kept) ∙ testBit-from (bitAnd (word p (from / 64)) mask) (from % 64) i
+          ∙ ap₂ _&&_ (same-order i) (masked-word p ok mask (from / 64) i m l);
+      fits = rw e (mod-lt _ (omega arith));
+    }
+  where
+    kept : bitAnd (word p (from / 64)) mask / 2 ^ (from % 64) * 2 ^ (from % 64) < 2 ^ 64
+    kept = omega (arith, split (bitAnd (word p (from / 64)) mask) (from % 64), and-le-r (word p (from / 64)) mask)
+
+    same-order : (i : ℕ) → leb (from % 64) i ≡ leb from (from / 64 * 64 + i)
+    same-order i =
+        elim (decLt i (from % 64)) [
+          | yes l ↦ lt-leb (from % 64) i l ∙ sym (lt-leb from (from / 64 * 64 + i) (omega arith))
+          | no l ↦ le-leb (from % 64) i (omega arith) ∙ sym (le-leb from (from / 64 * 64 + i) (omega arith))
+        ]
+
+-- what is left of the word, bit by bit
+left-at : {p : Predicate} {mask from q w : ℕ} → Reached p mask from q w → (b : ℕ) → from ≤ b → q * 64 ≤ b → b < q * 64 + 64 → testBit w (b - q * 64) ≡ under p mask b
+left-at {p} {mask} {from} {q} {w} r b h l m =
+    let e : q * 64 + (b - q * 64) ≡ b = omega arith in
+    r .left (b - q * 64) (omega arith) ∙ ap (λ (x : ℕ). leb from x && under p mask x) e ∙ ap (λ (t : Bool). t && under p mask b) (le-leb from b h)
+
+-- a word of which nothing is left
+passed : {p : Predicate} {mask from q w : ℕ} → Reached p mask from q w → w ≡ 0 → (b : ℕ) → from ≤ b → b < q * 64 + 64 → under p mask b ≡ false
+passed {p} {mask} {from} {q} {w} r e b h l =
+    elim (decLt b (q * 64)) [
+      | yes m ↦ r .none b h m
+      | no m ↦ sym (left-at r b h (omega arith) l) ∙ ap (λ (x : ℕ). testBit x (b - q * 64)) e ∙ testBit-zero (b - q * 64)
+    ]
+
+-- and the next one, if nothing is left of that
+pub reached-next : {p : Predicate} {mask from q w : ℕ} → Reached p mask from q w → Words p → mask < 2 ^ 64 → w ≡ 0 → q + 1 < 4
+    → Reached p mask from (q + 1) (bitAnd (word p (q + 1)) mask)
+reached-next {p} {mask} {from} {q} {w} r ok m e h =
+    record {
+      place = h;
+      after = omega (arith, r .after);
+      none = λ b a l. passed r e b a (omega arith);
+      left = λ i l. masked-word p ok mask (q + 1) i m l
+          ∙ sym (ap (λ (t : Bool). t && under p mask ((q + 1) * 64 + i)) (le-leb from ((q + 1) * 64 + i) (omega (arith, r .after))));
+      fits = omega (arith, and-le-r (word p (q + 1)) mask);
+    }
+
+-- where something is left, its lowest bit is the one
+pub reached-found : {p : Predicate} {mask from q w : ℕ} → Reached p mask from q w → (w ≡ 0 → ⊥)
+    → q * 64 + firstFrom (testBit w) 0 64 ≡ firstFrom (under p mask) from 256
+reached-found {p} {mask} {from} {q} {w} r n =
+    let s = first-found (testBit w) 0 64 (omega arith) in
+    let k : firstFrom (testBit w) 0 64 < 64 = first-in w (r .fits) n in
+    let (t, hit) = both (leb from (q * 64 + firstFrom (testBit w) 0 64)) _ (sym (r .left (firstFrom (testBit w) 0 64) k) ∙ s .hit k) in
+    first-is (under p mask) from 256 (q * 64 + firstFrom (testBit w) 0 64) (record {
+      from = leb-true from (q * 64 + firstFrom (testBit w) 0 64) t;
+      upto = omega (arith, r .place);
+      none = λ b a l. elim (decLt b (q * 64)) [
+        | yes m ↦ r .none b a m
+        | no m ↦ sym (left-at r b a (omega arith) (omega arith)) ∙ s .none (b - q * 64) (omega arith) (omega arith)
+      ];
+      hit = λ l. hit;
+    })
+  where
+    both : (a b : Bool) → (a && b) ≡ true → (a ≡ true) × (b ≡ true)
+    both true b e = (refl, e)
+    both false b e = never e refl
+
+-- where nothing is left of the last word, there is none
+pub reached-none : {p : Predicate} {mask from q w : ℕ} → Reached p mask from q w → w ≡ 0 → 4 ≤ q + 1 → 256 ≡ firstFrom (under p mask) from 256
+reached-none {p} {mask} {from} {q} {w} r e l =
+    first-is (under p mask) from 256 256 (record {
+      from = omega (arith, r .after, r .place);
+      upto = omega arith;
+      none = λ b h m. passed r e b h (omega arith);
+      hit = λ h. absurd (omega arith);
+    })
+
+-- under the lowest bits of elements
+under-elements : (k : ℕ) (p : Predicate) → k < 4 → (b : ℕ) → under p (number (elementBit k) 0 64) b ≡ spread k (active k p) b
+unfolding spread active
+under-elements k p h b =
+    let again : elementBit k (b % 64) ≡ elementBit k b = sym (element-again k (b / 64 * 64) (b % 64) h (omega arith)) ∙ ap (elementBit k) (omega arith) in
+    ap (λ (t : Bool). t && bitAt p b) (testBit-number (elementBit k) 0 64 (b % 64) (omega arith) ∙ ap (elementBit k) (zero-add (b % 64)) ∙ again) ∙ sym (at-start k (bitAt p) b)
+
+-- so the search under that mask finds the lowest bit of the next active element
+pub element-search : {p : Predicate} {mask from q w : ℕ} → Reached p mask from q w → (k : ℕ) → mask ≡ number (elementBit k) 0 64 → k < 4
+    → firstFrom (under p mask) from 256 ≡ firstFrom (spread k (active k p)) from 256
+element-search {p} {mask} {from} {q} {w} r k e h =
+    first-cong _ _ from 256 (omega (arith, r .after, r .place)) (λ b a l. ap (λ (m : ℕ). under p m b) e ∙ under-elements k p h b)
 
 -- ---- the count
 

@@ -3,7 +3,7 @@
 // What lies past a vector's elements is masked away, so no function asks for a legal predicate. Flags are answered as the number NZCV.
 ghost use mathlib.Core.Path.{_≡_};
 ghost use mathlib.Core.Bool.{false, not, _&&_, _||_, xor as xorBits};
-ghost use Prim.Native.Nat.{_+_, _-_, _*_, _/_, _^_, _%_, min};
+ghost use Prim.Native.Nat.{_+_, _-_, _*_, _/_, _^_, _%_, _<_, min};
 ghost use lib.Dec.{eqb};
 ghost use Rattle.bits.specs.Bits.{testBit, number};
 ghost use Rattle.bits.specs.Choice.{digit};
@@ -202,15 +202,53 @@ impl Predicate {
     pub fn next_active(self, size: Size, start: u64, elements: u64) -> u64
         ensures { λ r. ⌜ r ≡ firstFrom (active (shift size) self) start elements ⌝ }
     {
-        let mut next = start;
+        if elements <= start {
+            return start;
+        }
+        // In a walk it is nearly always this one. By a branch, so that the next search does not wait for a count of zeros.
+        if self.is_active(size, start) {
+            return start;
+        }
+        self.next_after(size, start, elements)
+    }
+
+    // The first active element after `start` and below `elements`, or `elements`; by words.
+    fn next_after(self, size: Size, start: u64, elements: u64) -> u64
+        requires { ⌜ start < elements ⌝ }
+        ensures { λ r. ⌜ r ≡ firstFrom (active (shift size) self) (start + 1) elements ⌝ }
+    {
+        if 256 <= start {
+            return elements;
+        }
+        let k = size.shift();
+        let b = self.lowest_from(size, (start + 1) << k);
+        if 256 <= b {
+            return elements;
+        }
+        let e = b >> k;
+        if e < elements { e } else { elements }
+    }
+
+    // The first bit from `from` on that is the lowest of an active element; 256 or more if there is none. Words without one are skipped.
+    fn lowest_from(self, size: Size, from: u64) -> u64
+        ensures { λ r. ⌜ r ≡ firstFrom (spread (shift size) (active (shift size) self)) from 256 ⌝ }
+    {
+        if 256 <= from {
+            return from;
+        }
+        let mask = bits::element_mask(size);
+        let mut i = (from / 64) as usize;
+        // Of the first word, the bits from `from` on.
+        let mut word = ((self.words[i] & mask) >> (from % 64)) << (from % 64);
         let found = loop {
-            if elements <= next {
-                break next;
+            if word != 0 {
+                break (i as u64) * 64 + bits::lowest_bit(word);
             }
-            if self.is_active(size, next) {
-                break next;
+            i += 1;
+            if 4 <= i {
+                break 256;
             }
-            next += 1;
+            word = self.words[i] & mask;
         };
         found
     }

@@ -1,24 +1,19 @@
 use mathlib.Core.Path.{ap, _∙_, sym}
 use Prim.Native.Nat.{ℕ, _*_, _^_, _%_}
-use native.Mathlib.Nat.{le-trans, mul-le-mul-left}
 use native.Mathlib.Omega.{arith}
-use lib.Pow.{pow-pos}
 use borrow.Author.Needs.{needs}
 use Rattle.bits.specs.Size.{shift}
 use Rattle.bits.proofs.Sizes.{shift-lt, shifted}
 use Rattle.predicates.specs.Predicate.{bitAt, active}
-use Rattle.predicates.proofs.Words.{words-of, bit-past}
+use Rattle.predicates.proofs.ElementBits.{active-past, past-bits}
+use Rattle.predicates.proofs.Words.{words-of}
 use Rattle.predicates.proofs.Predicate.is_active.Statement.{statement}
 use Rattle.predicates.proofs.Predicate.is_active.Tie as tie
 
 -- `Predicate::is_active` meets its contract: past element 255 there is no bit. Assumes nothing.
 
 returns : tie.Need-returns
-unfolding active
-returns c =
-    let k = shift (c .before .args .size) in
-    let e = c .before .args .e in
-    sym (bit-past (c .before .args .self) (search (needs, words-of)) (e * 2 ^ k) (le-trans (omega arith) (mul-le-mul-left e (pow-pos k))))
+returns c = sym (active-past _ (c .before .args .self) (search (needs, words-of)) _ (past-bits _ _ (c .if1 .taken)))
 
 shift-requires : tie.Need-shift-requires
 shift-requires c κs = search needs

@@ -1,52 +1,33 @@
--- `Predicate::next_active` meets its contract. The search from `next` finds what the search from `start` finds. Assumes nothing.
-use mathlib.Core.Path.{_≡_, refl, sym, _∙_}
-use Prim.Native.Nat.{_-_}
+-- `Predicate::next_active` meets its contract: it finds the first that is looked at, or what is found after it. Assumes nothing.
+use mathlib.Core.Path.{sym, _∙_}
 use borrow.Author.Needs.{needs}
-use Rattle.bits.specs.Search.{firstFrom}
-use Rattle.bits.specs.Size.{shift}
 use Rattle.bits.proofs.Searches.{first-end, first-hit, first-miss}
-use Rattle.predicates.specs.Predicate.{active}
 use Rattle.predicates.proofs.Predicate.next_active.Statement.{statement}
 use Rattle.predicates.proofs.Predicate.next_active.Tie as tie
 
-abbrev Inv-loop : tie.InvT-loop
-Inv-loop self size start elements next₀ next =
-    firstFrom (active (shift size) self) next elements ≡ firstFrom (active (shift size) self) start elements
+returns : tie.Need-returns
+returns c = sym (first-end _ _ _ (c .if1 .taken))
 
-abbrev μ-loop : tie.MeasureT-loop
-μ-loop self size start elements next₀ next = elements - next
-
-loop-holds : tie.Need-loop-holds Inv-loop μ-loop
-loop-holds c = refl
-
-is-active-requires : tie.Need-is-active-requires Inv-loop μ-loop
+is-active-requires : tie.Need-is-active-requires
 is-active-requires c κs = search needs
 
-add-next : tie.Need-add-next Inv-loop μ-loop
-add-next c = search needs
+returns-2 : tie.Need-returns-2
+returns-2 c = sym (first-hit _ _ _ (c .before .before .if1 .left) (sym (c .before .is-active .ensures) ∙ c .if2 .taken))
 
-loop-less : tie.Need-loop-less Inv-loop μ-loop
-loop-less c = search needs
+next-after-requires : tie.Need-next-after-requires
+next-after-requires c κs = search needs
 
-loop-again : tie.Need-loop-again Inv-loop μ-loop
-loop-again c = sym (first-miss _ _ _ (c .before .before .if1 .left) (sym (c .before .is-active .ensures) ∙ c .if2 .left)) ∙ c .before .before .before .loop .inv
-
-returns : tie.Need-returns Inv-loop μ-loop
-returns c = sym (first-end _ _ _ (c .if1 .taken)) ∙ c .before .loop .inv
-
-returns-2 : tie.Need-returns-2 Inv-loop μ-loop
-returns-2 c = sym (first-hit _ _ _ (c .before .before .if1 .left) (sym (c .before .is-active .ensures) ∙ c .if2 .taken)) ∙ c .before .before .before .loop .inv
+returns-3 : tie.Need-returns-3
+returns-3 c =
+    c .next-after .ensures
+    ∙ sym (first-miss _ _ _ (c .before .before .before .if1 .left) (sym (c .before .before .is-active .ensures) ∙ c .before .if2 .left))
 
 pub next-active-spec : {M : Type 1} → statement M
 next-active-spec =
     tie.close
     (tie.spec
-    Inv-loop
-    μ-loop
-    loop-holds
-    is-active-requires
-    add-next
-    loop-less
-    loop-again
     returns
-    returns-2)
+    is-active-requires
+    returns-2
+    next-after-requires
+    returns-3)
