@@ -1,5 +1,5 @@
 /* Every refusal that each function can give, in its order, and that it leaves all as it was; nulls, empty lists, numbers past their range;
- * counters with bits past their count. */
+ * counters with bits past their count; PNEXT past words without an active element. */
 #include "check.h"
 
 enum {
@@ -7,6 +7,7 @@ enum {
     WHILEGE = 0x25201000,       /* p0.b, x0, x0: level 2 */
     WHILE_COUNTER = 0x25204010, /* level 3 */
     CNTP_COUNTER = 0x25208700,  /* x0, pn8.b, four vectors: level 3 */
+    PNEXT = 0x2519C443,         /* p3.b, p2, p3.b: level 1 */
     AND = 0x25044861,           /* p1.b, p2/z, p3.b, p4.b: level 1 */
     SEL = 0x25034650,           /* p0.b, p1, p2.b, p3.b: level 1 */
     SETS_FLAGS = 0x00400000     /* S of a word of predicate logic; SEL has no form with it */
@@ -133,6 +134,43 @@ static void counters_read(void) {
         CHECK(counted(vl, 0x8000 | past | 7) == vl / 2 - 3);
         CHECK(counted(vl, 0x8000 | past) == 0);
     }
+}
+
+/* ---- searches */
+
+/* A PNEXT at 2,048 bits: the cursor and the flags that it leaves. */
+struct search {
+    uint32_t size;
+    struct plokamyr_predicate mask, cursor, found;
+    bool n, z, c;
+};
+
+/* It writes nothing else. */
+static void expect_next(struct search search) {
+    struct plokamyr_state s = sample(2048);
+    s.p[2] = search.mask;
+    s.p[3] = search.cursor;
+    struct plokamyr_state after = both_steps(&s, PNEXT + (search.size << 22), PLOKAMYR_DONE);
+    s.p[3] = search.found;
+    s.flags = (struct plokamyr_flags){.n = search.n, .z = search.z, .c = search.c};
+    CHECK(same_state(&after, &s));
+}
+
+static void searches(void) {
+    enum { SEARCHES = 8 };
+    static const uint64_t top = UINT64_C(1) << 63;
+    static const uint64_t not_h = 0xAAAAAAAAAAAAAAAA, not_s = 0xEEEEEEEEEEEEEEEE; /* the bits that are ignored at size H, and at S */
+    const struct search known[SEARCHES] = {
+        {0, {{0, 0, 0, top}}, {{0}}, {{0, 0, 0, top}}, true, false, false},                    /* only the last element */
+        {0, {{0, 0, 0, top}}, {{0, 0, 0, top}}, {{0}}, false, true, true},                     /* none left */
+        {0, {{7}}, {{2}}, {{4}}, false, false, false},                                         /* in the cursor's word */
+        {0, {{1, 32}}, {{1}}, {{0, 32}}, false, false, false},                                 /* in the second word */
+        {0, {{1, 0, 0, 6}}, {{1}}, {{0, 0, 0, 2}}, false, false, true},                        /* past two empty words */
+        {1, {{not_h, not_h, not_h | 4}}, {{0, 0, 0, not_h}}, {{0, 0, 4}}, true, false, false}, /* past ignored bits */
+        {2, {{16, not_s, not_s, not_s}}, {{16}}, {{0}}, false, true, true},                    /* none left but ignored bits */
+        {3, {{1, 0, 0, top >> 7}}, {{129}}, {{0, 0, 0, top >> 7}}, false, false, false},       /* the last doubleword */
+    };
+    for (int i = 0; i < SEARCHES; i++) expect_next(known[i]);
 }
 
 /* ---- run */
@@ -638,6 +676,7 @@ int main(void) {
     step_refusals();
     steps_agree();
     counters_read();
+    searches();
     run_refusals();
     run_stops();
     walk_registers();

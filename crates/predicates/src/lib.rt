@@ -5,6 +5,7 @@ ghost use mathlib.Core.Path.{_≡_};
 ghost use mathlib.Core.Bool.{false, not, _&&_, _||_, xor as xorBits};
 ghost use Prim.Native.Nat.{_+_, _-_, _*_, _/_, _^_, _%_, _<_, min};
 ghost use lib.Dec.{eqb};
+ghost use lib.ListN.{getD};
 ghost use Rattle.bits.specs.Bits.{testBit, number};
 ghost use Rattle.bits.specs.Choice.{digit};
 ghost use Rattle.bits.specs.Search.{count as countBits, some, firstFrom, afterLast};
@@ -177,15 +178,27 @@ impl Predicate {
         bits::bit_length(w[0])
     }
 
+    // Word `i`, by comparisons: the words need not stand in memory to be chosen from.
+    fn word(self, i: u64) -> u64
+        requires { ⌜ i < 4 ⌝ }
+        ensures { λ r. ⌜ r ≡ getD (self .words) i 0 ⌝ }
+    {
+        let w = self.words;
+        if i < 2 {
+            if i == 0 { w[0] } else { w[1] }
+        } else {
+            if i == 2 { w[2] } else { w[3] }
+        }
+    }
+
     // Bit `b`; 0 from bit 256 on.
     pub fn bit(self, b: u64) -> bool
         ensures { λ r. ⌜ r ≡ bitAt self b ⌝ }
     {
-        let i = (b / 64) as usize;
-        if 4 <= i {
+        if 256 <= b {
             return false;
         }
-        (self.words[i] >> (b % 64)) % 2 == 1
+        (self.word(b / 64) >> (b % 64)) % 2 == 1
     }
 
     // Whether an element's lowest bit is 1.
@@ -257,9 +270,28 @@ impl Predicate {
     pub fn only(b: u64) -> Predicate
         ensures { λ r. ⌜ r ≡ pack (λ i. eqb i b) ⌝ }
     {
-        Predicate {
-            words: [bit_in(b, 0), bit_in(b, 1), bit_in(b, 2), bit_in(b, 3)],
+        let bit: u64 = 1 << (b % 64);
+        if b < 64 {
+            return Predicate {
+                words: [bit, 0, 0, 0],
+            };
         }
+        if b < 128 {
+            return Predicate {
+                words: [0, bit, 0, 0],
+            };
+        }
+        if b < 192 {
+            return Predicate {
+                words: [0, 0, bit, 0],
+            };
+        }
+        if b < 256 {
+            return Predicate {
+                words: [0, 0, 0, bit],
+            };
+        }
+        Predicate::none()
     }
 
     // The first `n` elements active.
@@ -333,16 +365,6 @@ impl Predicate {
     {
         self.and_not(Predicate::first(Size::B, pl)).is_empty()
     }
-}
-
-// Word `q` of the predicate with only bit `b` set.
-fn bit_in(b: u64, q: u64) -> u64
-    ensures { λ r. ⌜ r ≡ number (λ i. eqb i b) (q * 64) 64 ⌝ }
-{
-    if b / 64 == q {
-        return 1 << (b % 64);
-    }
-    0
 }
 
 // The bit at which the first `n` elements end.

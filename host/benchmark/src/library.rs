@@ -1,11 +1,13 @@
 //! The library's times, in ns per instruction.
 
+use crate::builds::Build;
 use crate::timing::best;
+use crate::words;
 use plokamyr::{Reply, State};
 use std::hint::black_box;
 
-/// A run is short: so many are timed together.
-const RUNS: usize = 20;
+/// A run is short: as many are timed together as have so many words.
+const TIMED: usize = 20 * 4096;
 
 /// The step where the state stands, called for each word.
 pub fn step(start: &State, words: &[u32]) -> f64 {
@@ -18,9 +20,10 @@ pub fn step_lent(start: &State, words: &[u32]) -> f64 {
 }
 
 fn each(start: &State, words: &[u32], step: impl Fn(&mut State, u32) -> Reply) -> f64 {
+    let runs = TIMED / words.len();
     let mut state = start.clone();
-    let time = best(5, (RUNS * words.len()) as u64, || {
-        for _ in 0..RUNS {
+    let time = best(5, (runs * words.len()) as u64, || {
+        for _ in 0..runs {
             state.clone_from(black_box(start));
             for word in words {
                 assert_eq!(step(black_box(&mut state), *word), Reply::Done);
@@ -31,15 +34,29 @@ fn each(start: &State, words: &[u32], step: impl Fn(&mut State, u32) -> Reply) -
     time
 }
 
-pub fn run(start: &State, words: &[u32]) -> f64 {
+pub fn run(build: &Build, start: &State, words: &[u32]) -> f64 {
+    time_and_state(build, start, words).0
+}
+
+/// Runs of PNEXT from empty cursors through a mask in which only the last byte element is active.
+pub fn run_pnext(build: &Build, vl: u64) -> f64 {
+    let start = words::start_of_pnext(vl);
+    let (time, state) = time_and_state(build, &start, &words::pnext());
+    assert!(state.p.iter().all(|cursor| *cursor == start.p[0]), "each cursor has found the last element");
+    time
+}
+
+/// The time of a run, and the state after it.
+fn time_and_state(build: &Build, start: &State, words: &[u32]) -> (f64, State) {
+    let runs = TIMED / words.len();
     let mut state = start.clone();
-    best(5, (RUNS * words.len()) as u64, || {
-        for _ in 0..RUNS {
+    let time = best(5, (runs * words.len()) as u64, || {
+        for _ in 0..runs {
             state.clone_from(black_box(start));
-            let ran = black_box(&mut state).run(words);
-            assert_eq!((ran.reply, ran.done), (Reply::Done, words.len()));
+            assert_eq!((build.run)(black_box(&mut state), words), Some(words.len()));
         }
-    })
+    });
+    (time, state)
 }
 
 /// The state after a run of the words.
@@ -50,15 +67,20 @@ pub fn after(start: &State, words: &[u32]) -> State {
     state
 }
 
-/// The walk of as many byte positions as the list has places.
-pub fn walk(vl: u64, list: &mut [u64]) -> f64 {
+/// Walks of as many byte positions as the list has places, one after the other.
+pub fn walk(build: &Build, vl: u64, list: &mut [u64], walks: u64) -> f64 {
+    let positions = list.len() as u64;
     let mut state = State::new(vl, 1);
-    state.x[1] = list.len() as u64;
-    let budget = walk_instructions(vl, state.x[1]);
-    best(3, budget, || {
-        let walked = plokamyr::walk(&state, 0, 0, 1, 0, 1, list, budget);
-        assert_eq!((walked.reply, walked.count), (Reply::Done, budget));
-    })
+    state.x[1] = positions;
+    let budget = walk_instructions(vl, positions);
+    list.fill(u64::MAX);
+    let time = best(3, walks * budget, || {
+        for _ in 0..walks {
+            assert_eq!((build.walk)(black_box(&state), list, budget), Some(budget));
+        }
+    });
+    assert!(list.iter().copied().eq(0..positions), "the positions of the walk");
+    time
 }
 
 /// The instructions of a walk of byte positions: D + 3R + 2.

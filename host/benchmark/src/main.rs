@@ -1,23 +1,34 @@
-//! Nanoseconds per instruction of the library, beside the second program and QEMU.
+//! Nanoseconds per instruction of the library, beside the second program, QEMU and an earlier library.
 //! All are timed in turn, round after round; each time printed is the best of its rounds.
+#![deny(unsafe_code)]
 
+mod builds;
+#[cfg(before)]
+#[allow(unsafe_code)]
+mod copies;
 mod library;
 mod qemu;
+#[allow(unsafe_code)]
+mod search;
 mod second;
 mod table;
 mod timing;
 mod words;
 
+use builds::{BUILDS, NOW};
 use library::walk_instructions;
 use qemu::Qemu;
 use table::{Table, LENGTHS};
 
 const WORDS: usize = 4096;
 const POSITIONS: u64 = 2_000_000;
+/// The positions of a title, and how many titles are walked in a time.
+const TITLE: usize = 20;
+const TITLES: u64 = 4_000;
 const ROUNDS: usize = 8;
 
-/// What is divided by what, under the table of times.
-const RATIOS: [(&str, &str); 7] = [
+/// What is divided by what, under the table of times, where both were timed.
+const RATIOS: [(&str, &str); 12] = [
     ("step, lent", "step"),
     ("step, second program", "step"),
     ("run, second program", "run"),
@@ -25,6 +36,11 @@ const RATIOS: [(&str, &str); 7] = [
     ("walk, second program", "walk"),
     ("walk, qemu", "walk"),
     ("walk, qemu, no positions", "walk"),
+    ("search, by elements", "search, by words"),
+    ("run, before", "run"),
+    ("run, PNEXT, before", "run, PNEXT"),
+    ("walk, before", "walk"),
+    ("walk, titles, before", "walk, titles"),
 ];
 
 const NOTES: &str = "
@@ -32,7 +48,14 @@ step, run: 4,096 words, the twelve forms in turn, their fields drawn at random, 
 was compared with the second program's. Step, lent: by way of the step by value. Nine forms: those of levels 1 and 2.
 Logic: predicate logic alone, all operations, with and without flags.
 Counters: CNTP of counters alone, all sizes and groups, of all marks, half of them inverted.
-walk: 2,000,000 byte positions (the second program: 20,000). Instructions are the walk's own, D + 3R + 2.";
+search: from byte element 0 of a mask in which only the last is active, in ns for each search. By words: as the library
+does it. By elements: a scan that tests one after the other.
+run, PNEXT: 15 words of PNEXT through that mask, each from an empty cursor; the state is set and tested for each run.
+walk: 2,000,000 byte positions (the second program: 20,000). Instructions are the walk's own, D + 3R + 2.
+Titles: walks of 20 positions, one after the other.";
+
+#[cfg(before)]
+const COPIES: &str = "timed as the other is: by a copy, each of whose functions is at a multiple of 64 bytes.";
 
 const QEMU_NOTES: &str = "
 run, qemu: the words as straight code. The library's state after them was compared with QEMU's.
@@ -63,11 +86,14 @@ fn main() {
             bench.base_words_round(column, vl);
             bench.logic_round(column, vl);
             bench.counters_round(column, vl);
+            bench.search_round(column, vl);
             bench.walk_round(column, vl);
         }
     }
     bench.table.print(&RATIOS);
     println!("{NOTES}");
+    #[cfg(before)]
+    println!("before: the library in {}, {COPIES}", env!("PLOKAMYR_BEFORE"));
     println!("Each time is the best of {ROUNDS} rounds, in which all are timed in turn.");
     if bench.qemu.is_some() {
         println!("{QEMU_NOTES}");
@@ -83,7 +109,9 @@ impl Bench {
         table.take("step", column, library::step(&start, all));
         table.take("step, lent", column, library::step_lent(&start, all));
         table.take("step, second program", column, second::step(&start, all));
-        table.take("run", column, library::run(&start, all));
+        for build in BUILDS {
+            table.take(&build.line("run"), column, library::run(build, &start, all));
+        }
         table.take("run, second program", column, second::run(&start, all));
     }
 
@@ -91,7 +119,7 @@ impl Bench {
     fn base_words_round(&mut self, column: usize, vl: u64) {
         let start = words::start(vl);
         let Bench { table, base, .. } = self;
-        table.take("run, nine forms", column, library::run(&start, base));
+        table.take("run, nine forms", column, library::run(NOW, &start, base));
         if let Some(qemu) = &self.qemu {
             let (time, state) = qemu.run(vl);
             assert_eq!(state, library::after(&start, base), "QEMU's state after the run, and ours");
@@ -103,7 +131,7 @@ impl Bench {
     fn logic_round(&mut self, column: usize, vl: u64) {
         let start = words::start_of_logic(vl);
         let Bench { table, logic, .. } = self;
-        table.take("run, logic", column, library::run(&start, logic));
+        table.take("run, logic", column, library::run(NOW, &start, logic));
         table.take("run, logic, second program", column, second::step(&start, logic));
     }
 
@@ -111,14 +139,26 @@ impl Bench {
     fn counters_round(&mut self, column: usize, vl: u64) {
         let start = words::start_of_counters(vl);
         let Bench { table, counters, .. } = self;
-        table.take("run, counters", column, library::run(&start, counters));
+        table.take("run, counters", column, library::run(NOW, &start, counters));
         table.take("run, counters, second program", column, second::step(&start, counters));
+    }
+
+    /// Times the search for the last element, by itself and as PNEXT.
+    fn search_round(&mut self, column: usize, vl: u64) {
+        let table = &mut self.table;
+        table.take("search, by words", column, search::by_words(vl));
+        table.take("search, by elements", column, search::by_elements(vl));
+        for build in BUILDS {
+            table.take(&build.line("run, PNEXT"), column, library::run_pnext(build, vl));
+        }
     }
 
     fn walk_round(&mut self, column: usize, vl: u64) {
         let Bench { table, list, .. } = self;
-        table.take("walk", column, library::walk(vl, list));
-        assert!(list.iter().copied().eq(0..POSITIONS), "the positions of the walk");
+        for build in BUILDS {
+            table.take(&build.line("walk"), column, library::walk(build, vl, list, 1));
+            table.take(&build.line("walk, titles"), column, library::walk(build, vl, &mut [0; TITLE], TITLES));
+        }
         table.take("walk, second program", column, second::walk(vl));
         if let Some(qemu) = &self.qemu {
             let count = walk_instructions(vl, POSITIONS) as f64;

@@ -2,9 +2,9 @@
 
 pub const LENGTHS: [u64; 3] = [128, 512, 2048];
 
-/// A line of the table: the best time seen at each length, in ns per instruction.
+/// A line of the table: the best time seen at each length, in ns.
 struct Line {
-    name: &'static str,
+    name: String,
     best: [f64; 3],
 }
 
@@ -15,9 +15,9 @@ pub struct Table {
 
 impl Table {
     /// Takes a time in, at a column, if it is the best so far.
-    pub fn take(&mut self, name: &'static str, column: usize, time: f64) {
+    pub fn take(&mut self, name: &str, column: usize, time: f64) {
         let at = self.lines.iter().position(|line| line.name == name).unwrap_or_else(|| {
-            self.lines.push(Line { name, best: [f64::INFINITY; 3] });
+            self.lines.push(Line { name: name.to_string(), best: [f64::INFINITY; 3] });
             self.lines.len() - 1
         });
         let best = &mut self.lines[at].best[column];
@@ -32,7 +32,7 @@ impl Table {
     pub fn print(&self, ratios: &[(&'static str, &'static str)]) {
         print_head("ns per instruction");
         for line in &self.lines {
-            print_line(line.name, line.best);
+            print_line(&line.name, line.best);
         }
         println!();
         print_head("times as long");

@@ -1,6 +1,6 @@
 //! The words that are timed, and the state that they start from.
 
-use plokamyr::State;
+use plokamyr::{Predicate, State};
 
 /// A number of pseudorandom bits (xorshift): the same words at every run.
 pub struct Dice(u64);
@@ -137,6 +137,26 @@ pub fn start_of_counters(vl: u64) -> State {
         p.words[0] = inversion << 15 | count << (size + 1) | 1 << size;
     }
     state
+}
+
+/// Words of PNEXT through P0 in bytes, each with a cursor of its own.
+pub fn pnext() -> Vec<u32> {
+    (1..16).map(|cursor| 0x2519_C400 | cursor).collect()
+}
+
+/// Only the last byte element is active in P0; every cursor is empty.
+pub fn start_of_pnext(vl: u64) -> State {
+    let mut state = State::new(vl, 1);
+    state.p[0] = only_last(vl);
+    state
+}
+
+/// The predicate in which only the last byte element is active.
+pub fn only_last(vl: u64) -> Predicate {
+    let last = vl as usize / 8 - 1;
+    let mut mask = Predicate::default();
+    mask.words[last / 64] = 1 << (last % 64);
+    mask
 }
 
 /// Numbers of 3 to 8 bits in X, so that a WHILE often ends within a vector; the rest is zero.

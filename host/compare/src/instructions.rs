@@ -39,6 +39,9 @@ pub const WIDTHS: [&[u8]; FORMS.len()] = [
 pub const WHILE_COUNTER: u8 = 2;
 pub const CNTP_COUNTER: u8 = 6;
 
+/// The number of PNEXT. The fields are size, Pv, Pdn.
+pub const PNEXT: u8 = 7;
+
 /// The number of predicate logic. The fields are op, S, Pm, Pg, o2, Pn, o3, Pd.
 pub const LOGIC: u8 = 11;
 

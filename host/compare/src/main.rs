@@ -11,6 +11,7 @@ mod images;
 mod kind;
 mod lent;
 mod logic;
+mod searches;
 mod seen;
 mod steps;
 mod texts;
@@ -36,13 +37,14 @@ fn entry<K: Kind>() -> Entry {
     Entry { name: K::NAME, all: run_all::<K>, one: run_case::<K> }
 }
 
-fn entries() -> [Entry; 13] {
+fn entries() -> [Entry; 14] {
     [
         entry::<steps::Steps>(),
         entry::<steps::Runs>(),
         entry::<logic::Logic>(),
         entry::<counters::Counters>(),
         entry::<whiles::Whiles>(),
+        entry::<searches::Searches>(),
         entry::<walks::Walks>(),
         entry::<images::Reads>(),
         entry::<images::Cuts>(),

@@ -134,8 +134,19 @@ pub fn shaped(random: &mut Random, vl: u64, shape: Shape) -> [u64; 4] {
     cut(words, vl)
 }
 
+/// A predicate with these elements active and no others. Of the bits that are ignored at that size, each word has any or none.
+pub fn with_elements(random: &mut Random, vl: u64, size: u8, active: &[u64]) -> [u64; 4] {
+    let ignored = !elements_of_size(u64::from(size));
+    let mut words = [(); 4].map(|()| if random.one_in(4) { 0 } else { random.next() & ignored });
+    for element in active {
+        let bit = (element << size) as usize;
+        words[bit / 64] |= 1 << (bit % 64);
+    }
+    cut(words, vl)
+}
+
 /// The lowest bits of the elements of a size.
-fn elements_of_size(size: u64) -> u64 {
+pub fn elements_of_size(size: u64) -> u64 {
     [u64::MAX, 0x5555_5555_5555_5555, 0x1111_1111_1111_1111, 0x0101_0101_0101_0101][size as usize]
 }
 

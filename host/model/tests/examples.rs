@@ -534,8 +534,9 @@ fn the_program() {
 #[test]
 fn the_examples() {
     let folder = concat!(env!("CARGO_MANIFEST_DIR"), "/../../examples");
-    for name in ["first", "tail", "logic", "counters", "level", "none", "cut", "empty", "count", "content", "trailing"]
-    {
+    for name in [
+        "first", "tail", "logic", "counters", "sparse", "level", "none", "cut", "empty", "count", "content", "trailing",
+    ] {
         let image = fs::read(format!("{folder}/{name}.image")).unwrap();
         let lines = fs::read(format!("{folder}/{name}.out")).unwrap();
         assert_eq!(text(&image), lines, "{name}");

@@ -21,6 +21,10 @@ const RUN: u8 = 1;
 const IMAGE: u8 = 2;
 const WALK: u8 = 3;
 
+/// Searches are runs too, drawn apart from the others.
+const SEARCH: u64 = 4;
+const SIZES: [u8; 4] = [0, 1, 2, 3];
+
 /// The shorter lengths more often, for the size of the file.
 const LENGTHS: [u64; 20] =
     [128, 128, 128, 128, 128, 128, 128, 128, 128, 256, 256, 256, 256, 256, 256, 512, 512, 1024, 1024, 2048];
@@ -38,6 +42,11 @@ fn main() {
     }
     for number in 0..WALKS {
         walk(&mut file, &mut Random::new(seed, u64::from(WALK), number), number);
+    }
+    for vl in states::LENGTHS {
+        for size in SIZES {
+            search(&mut file, &mut Random::new(seed, SEARCH, vl << 2 | u64::from(size)), vl, size);
+        }
     }
     file.say_and_check();
     std::io::stdout().write_all(&file.bytes).expect("standard output takes the file");
@@ -84,6 +93,10 @@ fn expected() -> Vec<String> {
     list.extend([0, 1, 2, 3].map(stopped_by));
     list.push(LEFT_OUT.to_string());
     list.extend(states::LENGTHS.map(counter_with_junk));
+    for size in SIZES {
+        list.extend(states::LENGTHS.map(|vl| searched(size, vl, true)));
+        list.extend(states::LENGTHS.map(|vl| searched(size, vl, false)));
+    }
     list.extend([0, 5, 6, 7].map(|reply| reply_of(IMAGE, reply)));
     list.extend([0, 2, 3, 10, 11, 12].map(|reply| reply_of(WALK, reply)));
     list
@@ -96,6 +109,11 @@ fn executed(form: &str, vl: u64) -> String {
 /// A CNTP that would answer otherwise if counts ended at bit 14.
 fn counter_with_junk(vl: u64) -> String {
     format!("executed CNTP counter with junk past its count at {vl}")
+}
+
+/// A PNEXT that finds an element, or none.
+fn searched(size: u8, vl: u64, found: bool) -> String {
+    format!("executed PNEXT of size {size} at {vl} that finds {}", if found { "one" } else { "none" })
 }
 
 /// An image holds no illegal state, so that the run's own reply is always 0.
@@ -123,9 +141,13 @@ fn run(file: &mut File, random: &mut Random, number: u64) {
     for &word in words.iter().rev() {
         instructions::tie(random, &mut state, word);
     }
-    let ran = model::run(&state, &words);
+    store_run(file, state, &words);
+}
+
+fn store_run(file: &mut File, mut state: State, words: &[u32]) {
+    let ran = model::run(&state, words);
     let mut rest = Vec::new();
-    push_image(&mut rest, &state, &words);
+    push_image(&mut rest, &state, words);
     rest.extend([ran.reply, ran.refused]);
     rest.extend((ran.done as u32).to_le_bytes());
     push_image(&mut rest, &ran.state, &[]);
@@ -137,19 +159,58 @@ fn run(file: &mut File, random: &mut Random, number: u64) {
     }
     file.see(format!("runs at level {}", state.level));
     for &word in &words[..ran.done] {
-        see_word(file, &state, word);
+        let before = state.clone();
         let _ = model::step(&mut state, word);
+        see_word(file, &before, &state, word);
     }
 }
 
 /// What a word does that is executed on this state.
-fn see_word(file: &mut File, state: &State, word: u32) {
+fn see_word(file: &mut File, before: &State, after: &State, word: u32) {
     let row = model::decode(word).expect("it was executed");
-    file.see(executed(instructions::FORMS[usize::from(row[0])], state.vl));
-    let [instructions::CNTP_COUNTER, _, _, _, rd, ..] = row else { return };
-    if rd < 31 && Reading::of(state, &row).has_junk_that_matters() {
-        file.see(counter_with_junk(state.vl));
+    let vl = before.vl;
+    file.see(executed(instructions::FORMS[usize::from(row[0])], vl));
+    match row {
+        [instructions::PNEXT, size, ..] => file.see(searched(size, vl, !after.flags.z)),
+        [instructions::CNTP_COUNTER, _, _, _, rd, ..]
+            if rd < 31 && Reading::of(before, &row).has_junk_that_matters() =>
+        {
+            file.see(counter_with_junk(vl))
+        }
+        _ => {}
     }
+}
+
+/// PNEXT through sparse masks. What a cursor came to on its way is not stored, so that each has a number of steps of its own,
+/// up to that at which none is left.
+fn search(file: &mut File, random: &mut Random, vl: u64, size: u8) {
+    let mut state = states::legal(random, vl);
+    (state.level, state.access) = (1, true);
+    let first = random.below(16);
+    let mut registers = (0..16).map(|i| ((first + i) % 16) as u8);
+    let mut words = Vec::new();
+    for active in sparse(random, vl, size) {
+        let pv = registers.next().expect("there are enough");
+        state.p[usize::from(pv)] = states::with_elements(random, vl, size, &active);
+        for (steps, pdn) in (1..active.len() + 2).zip(&mut registers) {
+            state.p[usize::from(pdn)] = states::with_elements(random, vl, size, &[]);
+            let pnext = model::encode(&[instructions::PNEXT, size, pv, pdn, 0, 0, 0, 0, 0]);
+            words.extend(vec![pnext.expect("its fields are in range"); steps]);
+        }
+    }
+    // flags are stored of the last word alone: let that be any
+    let last = random.index(words.len());
+    words.rotate_left(last);
+    store_run(file, state, &words);
+}
+
+/// The active elements of three masks: one in each word, the last alone, and a few.
+fn sparse(random: &mut Random, vl: u64, size: u8) -> [Vec<u64>; 3] {
+    let elements = vl / (8 << size);
+    let in_word = elements.min(64 >> size);
+    let each_word = (0..elements / in_word).map(|word| word * in_word + random.below(in_word)).collect();
+    let few = (0..3).map(|_| random.below(elements)).collect();
+    [each_word, vec![elements - 1], few]
 }
 
 /// The forms in turn, with now and then a word that may be none; below level 3 seldom one that asks for it.

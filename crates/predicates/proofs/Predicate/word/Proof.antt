@@ -1,0 +1,44 @@
+-- `Predicate::word` meets its contract. Assumes nothing.
+use mathlib.Core.Path.{sym, ap}
+use native.Mathlib.Omega.{arith}
+use borrow.Author.Needs.{needs}
+use Rattle.predicates.proofs.Words.{word}
+use Rattle.predicates.proofs.Predicate.word.Statement.{statement}
+use Rattle.predicates.proofs.Predicate.word.Tie as tie
+
+array-read-result : tie.Need-array-read-result
+array-read-result c = search needs
+
+array-read-result-2 : tie.Need-array-read-result-2
+array-read-result-2 c = search needs
+
+array-read-result-3 : tie.Need-array-read-result-3
+array-read-result-3 c = search needs
+
+array-read-result-4 : tie.Need-array-read-result-4
+array-read-result-4 c = search needs
+
+returns : tie.Need-returns
+returns c = ap (word (c .before .before .before .args .self)) (omega arith)
+
+returns-2 : tie.Need-returns-2
+returns-2 c = ap (word (c .before .before .before .args .self)) (omega arith)
+
+returns-3 : tie.Need-returns-3
+returns-3 c = ap (word (c .before .before .before .args .self)) (omega arith)
+
+returns-4 : tie.Need-returns-4
+returns-4 c = ap (word (c .before .before .before .args .self)) (omega arith)
+
+pub word-spec : {M : Type 1} → statement M
+word-spec =
+    tie.close
+    (tie.spec
+    array-read-result
+    array-read-result-2
+    array-read-result-3
+    array-read-result-4
+    returns
+    returns-2
+    returns-3
+    returns-4)
