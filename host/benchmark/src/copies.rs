@@ -22,7 +22,7 @@ struct Walked {
 /// The calls of a copy, by the prefix of their names.
 macro_rules! copy {
     ($suffix:literal, $prefix:literal) => {{
-        #[allow(improper_ctypes)] // a state may have more fields in another wrapper; in this one it has C's layout
+        #[allow(improper_ctypes)] // `State` is open to more fields, for its users; it has C's layout
         extern "C" {
             #[link_name = concat!($prefix, "plokamyr_run_parts")]
             fn run_parts(
