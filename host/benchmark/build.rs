@@ -45,7 +45,8 @@ fn link(name: &str, folder: &Path) {
 }
 
 /// Links a copy whose calls have a prefix and which shows nothing else, so that several fit in one program. All of its
-/// functions begin at multiples of 64 bytes, so that none is faster for its address.
+/// functions begin at multiples of 64 bytes, so that the copies are placed alike. What is a good place for one may still be
+/// a bad one for another.
 fn link_copy(prefix: &str, archive: &Path) {
     find(archive, "PLOKAMYR_BEFORE is the folder of an earlier libcapi.a, or is not set.");
     let out = PathBuf::from(env::var_os("OUT_DIR").expect("cargo sets it"));
