@@ -25,7 +25,7 @@ extern "C" {
 /* Later versions may add replies: keep a default. */
 enum plokamyr_reply {
     PLOKAMYR_DONE = 0,
-    PLOKAMYR_UNKNOWN_WORD = 1,        /* the word is no instruction of ours */
+    PLOKAMYR_FOREIGN_WORD = 1,        /* bits 31:24 of the word are not 00100101 */
     PLOKAMYR_LEVEL_TOO_LOW = 2,       /* the state's level is below the form's */
     PLOKAMYR_ACCESS_OFF = 3,
     PLOKAMYR_ILLEGAL_STATE = 4,       /* vl is none of the five, level above 3, or a predicate bit at or above vl / 8 */
@@ -36,7 +36,8 @@ enum plokamyr_reply {
     PLOKAMYR_FIELD_PAST_RANGE = 9,    /* of an instruction to be written; also for SEL with S = 1 */
     PLOKAMYR_BAD_WALK_REGISTERS = 10, /* X past 31, P past 15, size past 3, n = 31, n = m, or d = k */
     PLOKAMYR_LIST_TOO_SHORT = 11,     /* fewer places than positions to visit */
-    PLOKAMYR_BUDGET_SPENT = 12        /* the walk has not ended */
+    PLOKAMYR_BUDGET_SPENT = 12,       /* the walk has not ended */
+    PLOKAMYR_UNSUPPORTED_FORM = 13    /* bits 31:24 of the word are 00100101, but its form is none of ours; also for SEL with S = 1 */
 };
 
 /* A predicate: bit b is bit b % 64 of words[b / 64]. */
@@ -62,7 +63,7 @@ struct plokamyr_state {
 
 /* ---- steps ---- */
 
-/* Executes one instruction word on a state whose parts stand anywhere. Nothing is copied. Refusals, the first that applies: 4, 1, 2, 3. */
+/* Executes one instruction word on a state whose parts stand anywhere. Nothing is copied. Refusals, the first that applies: 4, 1 or 13, 2, 3. */
 enum plokamyr_reply plokamyr_step_parts(uint64_t vl, uint8_t level, bool access, struct plokamyr_flags *flags, uint64_t x[31],
                                         struct plokamyr_predicate p[16], uint32_t word);
 
@@ -81,7 +82,7 @@ struct plokamyr_ran {
     size_t done;
 };
 
-/* Executes words one after the other, until one is refused (1, 2 or 3), on a state whose parts stand anywhere: they hold what the words done left.
+/* Executes words one after the other, until one is refused (1 or 13, 2, 3), on a state whose parts stand anywhere: they hold what the words done left.
  * Refusal: 4, even if there are no words. The faster way for more than one word. */
 struct plokamyr_ran plokamyr_run_parts(uint64_t vl, uint8_t level, bool access, struct plokamyr_flags *flags, uint64_t x[31],
                                        struct plokamyr_predicate p[16], const uint32_t *words, size_t count);
@@ -164,7 +165,7 @@ enum plokamyr_form {
 
 #define PLOKAMYR_ROW 9
 
-/* Reads a word as an instruction. Refusal: 1, also for SEL with S = 1. */
+/* Reads a word as an instruction. Refusal: 1 or 13, the latter also for SEL with S = 1. */
 enum plokamyr_reply plokamyr_decode(uint32_t word, uint8_t row[PLOKAMYR_ROW]);
 
 /* Writes an instruction as a word. Refusal: 9, for a form or a field past its range, a number other than 0 after the form's fields,

@@ -13,8 +13,14 @@ enum {
     SETS_FLAGS = 0x00400000     /* S of a word of predicate logic; SEL has no form with it */
 };
 
-enum { FOREIGN = 7 };
-static const uint32_t foreign[FOREIGN] = {0, 0xFFFFFFFF, 0x2518E410, 0x2519C410, 0x25000000, 0x24201C00, SEL | SETS_FLAGS};
+/* Another highest byte than ours. The last eight are PFALSE but for one bit of it. */
+enum { FOREIGN = 12 };
+static const uint32_t foreign[FOREIGN] = {0,          0xFFFFFFFF, 0x24FFFFFF, 0x26000000, 0x2418E400, 0x2718E400,
+                                          0x2118E400, 0x2D18E400, 0x3518E400, 0x0518E400, 0x6518E400, 0xA518E400};
+
+/* Our highest byte, but no form of ours. The last but one is BRKA p1.b, p1/z, p2.b. */
+enum { UNSUPPORTED = 6 };
+static const uint32_t unsupported[UNSUPPORTED] = {0x25000000, 0x25FFFFFF, 0x2518E410, 0x2519C410, 0x25104441, SEL | SETS_FLAGS};
 
 /* ---- illegal states */
 
@@ -74,13 +80,15 @@ static void step_refusals(void) {
         struct plokamyr_state s = illegal(i);
         s.access = false;
         expect_step(&s, PFALSE, PLOKAMYR_ILLEGAL_STATE);
-        expect_step(&s, 0, PLOKAMYR_ILLEGAL_STATE);
+        expect_step(&s, foreign[i % FOREIGN], PLOKAMYR_ILLEGAL_STATE);
+        expect_step(&s, unsupported[i % UNSUPPORTED], PLOKAMYR_ILLEGAL_STATE);
     }
     static const uint32_t words[4] = {0, PFALSE, WHILEGE, WHILE_COUNTER};
     for (uint8_t level = 0; level < 4; level++) {
         struct plokamyr_state s = with_level(level);
         s.access = false;
-        for (int i = 0; i < FOREIGN; i++) expect_step(&s, foreign[i], PLOKAMYR_UNKNOWN_WORD);
+        for (int i = 0; i < FOREIGN; i++) expect_step(&s, foreign[i], PLOKAMYR_FOREIGN_WORD);
+        for (int i = 0; i < UNSUPPORTED; i++) expect_step(&s, unsupported[i], PLOKAMYR_UNSUPPORTED_FORM);
         for (uint8_t asked = 1; asked < 4; asked++) {
             expect_step(&s, words[asked], level < asked ? PLOKAMYR_LEVEL_TOO_LOW : PLOKAMYR_ACCESS_OFF);
         }
@@ -202,13 +210,15 @@ static void run_refusals(void) {
         expect_run(&s, NULL, 0, PLOKAMYR_ILLEGAL_STATE, PLOKAMYR_DONE);
         expect_run(&s, words, 0, PLOKAMYR_ILLEGAL_STATE, PLOKAMYR_DONE);
         expect_run(&s, words, 2, PLOKAMYR_ILLEGAL_STATE, PLOKAMYR_DONE);
-        expect_run(&s, words + 1, 1, PLOKAMYR_ILLEGAL_STATE, PLOKAMYR_DONE);
+        expect_run(&s, foreign + i % FOREIGN, 1, PLOKAMYR_ILLEGAL_STATE, PLOKAMYR_DONE);
+        expect_run(&s, unsupported + i % UNSUPPORTED, 1, PLOKAMYR_ILLEGAL_STATE, PLOKAMYR_DONE);
     }
     struct plokamyr_state s = with_level(0);
     s.access = false;
     expect_run(&s, NULL, 0, PLOKAMYR_DONE, PLOKAMYR_DONE);
     expect_run(&s, words, 0, PLOKAMYR_DONE, PLOKAMYR_DONE);
-    for (int i = 0; i < FOREIGN; i++) expect_run(&s, foreign + i, 1, PLOKAMYR_DONE, PLOKAMYR_UNKNOWN_WORD);
+    for (int i = 0; i < FOREIGN; i++) expect_run(&s, foreign + i, 1, PLOKAMYR_DONE, PLOKAMYR_FOREIGN_WORD);
+    for (int i = 0; i < UNSUPPORTED; i++) expect_run(&s, unsupported + i, 1, PLOKAMYR_DONE, PLOKAMYR_UNSUPPORTED_FORM);
     expect_run(&s, words, 2, PLOKAMYR_DONE, PLOKAMYR_LEVEL_TOO_LOW);
     s.level = 3;
     expect_run(&s, words, 2, PLOKAMYR_DONE, PLOKAMYR_ACCESS_OFF);
@@ -233,7 +243,11 @@ static void run_stops(void) {
     expect_three(&s, words, 5, PLOKAMYR_LEVEL_TOO_LOW);
     for (int i = 0; i < FOREIGN; i++) {
         words[3] = foreign[i];
-        expect_three(&s, words, 5, PLOKAMYR_UNKNOWN_WORD);
+        expect_three(&s, words, 5, PLOKAMYR_FOREIGN_WORD);
+    }
+    for (int i = 0; i < UNSUPPORTED; i++) {
+        words[3] = unsupported[i];
+        expect_three(&s, words, 5, PLOKAMYR_UNSUPPORTED_FORM);
     }
 }
 
@@ -523,14 +537,19 @@ static void expect_text(const uint8_t *bytes, size_t length, size_t room, const 
     CHECK_GUARDS(text);
 }
 
-static void text_edges(void) {
-    static const char *const refused[4] = {"image 5\n", "image 6\n", "image 7\n", "image 5\n"};
-    static const char *const lines[4] = {"0 25a21c20 0 1010\n", "1 2519c401 0 1010\n", "2 00000000 1 1010\n", "end 2\n"};
-    static const uint32_t words[3] = {0x25A21C20, 0x2519C401, 0};
+/* Two words that are done, and one that is none of ours. */
+static size_t image_with(uint32_t last) {
+    const uint32_t words[3] = {0x25A21C20, 0x2519C401, last};
     struct plokamyr_state s = {.vl = 128, .level = 1, .access = true};
     s.x[1] = 10;
     s.x[2] = 13;
-    size_t length = plokamyr_write(s, words, 3, image, sizeof image).length;
+    return plokamyr_write(s, words, 3, image, sizeof image).length;
+}
+
+static void text_edges(void) {
+    static const char *const refused[4] = {"image 5\n", "image 6\n", "image 7\n", "image 5\n"};
+    static const char *const lines[4] = {"0 25a21c20 0 1010\n", "1 2519c401 0 1010\n", "2 00000000 1 1010\n", "end 2\n"};
+    size_t length = image_with(0);
     image[length] = 0;
     for (size_t room = 0; room < 70; room++) {
         expect_text(NULL, 0, room, refused, 1);
@@ -542,18 +561,40 @@ static void text_edges(void) {
     expect_text(image, length, PLOKAMYR_TEXT_MAX, lines, 4);
 }
 
-/* The longest text: 4,096 words done. PLOKAMYR_TEXT_MAX is no less, whatever it is. */
-static void longest_text(void) {
-    static const size_t longest = 10 * 18 + 90 * 19 + 900 * 20 + 3096 * 21 + 9;
+/* The line of a word that is none of ours has its reply, of one digit or two. */
+static void expect_last_line(uint32_t word, enum plokamyr_reply reply) {
+    char last[32];
+    snprintf(last, sizeof last, "2 %08x %d 1010\n", (unsigned)word, (int)reply);
+    const char *const lines[4] = {"0 25a21c20 0 1010\n", "1 2519c401 0 1010\n", last, "end 2\n"};
+    size_t length = image_with(word);
+    for (size_t room = 36; room < 70; room++) expect_text(image, length, room, lines, 4);
+    expect_text(image, length, PLOKAMYR_TEXT_MAX, lines, 4);
+}
+
+static void last_lines(void) {
+    for (int i = 0; i < FOREIGN; i++) expect_last_line(foreign[i], PLOKAMYR_FOREIGN_WORD);
+    for (int i = 0; i < UNSUPPORTED; i++) expect_last_line(unsupported[i], PLOKAMYR_UNSUPPORTED_FORM);
+}
+
+/* The text of 4,096 words, of which the last may be refused. PLOKAMYR_TEXT_MAX is no less, whatever it is. */
+static void expect_longest(uint32_t last, size_t longest, const char *end) {
     for (size_t i = 0; i < PLOKAMYR_WORDS_MAX; i++) many[i] = PFALSE;
+    many[PLOKAMYR_WORDS_MAX - 1] = last;
     size_t length = plokamyr_write(sample(2048), many, PLOKAMYR_WORDS_MAX, image, sizeof image).length;
     CHECK(length == PLOKAMYR_IMAGE_MAX);
     CHECK(longest <= PLOKAMYR_TEXT_MAX);
     FILL(text);
     CHECK(plokamyr_text(image, length, text.value, PLOKAMYR_TEXT_MAX) == longest);
-    CHECK(memcmp(text.value + longest - 9, "end 4096\n", 9) == 0);
+    CHECK(memcmp(text.value + longest - strlen(end), end, strlen(end)) == 0);
     CHECK(is_filled(text.value + longest, PLOKAMYR_TEXT_MAX - longest));
     CHECK_GUARDS(text);
+}
+
+static void longest_texts(void) {
+    static const size_t done = 10 * 18 + 90 * 19 + 900 * 20 + 3096 * 21 + 9;
+    expect_longest(PFALSE, done, "4095 2518e400 0 1011\nend 4096\n");
+    expect_longest(0, done, "4095 00000000 1 1011\nend 4095\n");
+    expect_longest(unsupported[0], done + 1, "4095 25000000 13 1011\nend 4095\n"); /* a digit more */
 }
 
 /* ---- words */
@@ -659,7 +700,7 @@ static void sel_with_flags(void) {
         expect_decode(word, PLOKAMYR_DONE, row);
         expect_encode(row, PLOKAMYR_DONE);
         row[2] = 1;
-        expect_decode(word | SETS_FLAGS, PLOKAMYR_UNKNOWN_WORD, NULL);
+        expect_decode(word | SETS_FLAGS, PLOKAMYR_UNSUPPORTED_FORM, NULL);
         expect_encode(row, PLOKAMYR_FIELD_PAST_RANGE);
     }
 }
@@ -669,7 +710,8 @@ static void words_edges(void) {
     sel_with_flags();
     for (uint8_t form = 0; form < FORMS; form++) encode_edges(form);
     for (unsigned form = FORMS; form < 256; form++) expect_encode((uint8_t[PLOKAMYR_ROW]){(uint8_t)form}, PLOKAMYR_FIELD_PAST_RANGE);
-    for (int i = 0; i < FOREIGN; i++) expect_decode(foreign[i], PLOKAMYR_UNKNOWN_WORD, NULL);
+    for (int i = 0; i < FOREIGN; i++) expect_decode(foreign[i], PLOKAMYR_FOREIGN_WORD, NULL);
+    for (int i = 0; i < UNSUPPORTED; i++) expect_decode(unsupported[i], PLOKAMYR_UNSUPPORTED_FORM, NULL);
 }
 
 int main(void) {
@@ -689,7 +731,8 @@ int main(void) {
     }
     write_refusals();
     text_edges();
-    longest_text();
+    last_lines();
+    longest_texts();
     words_edges();
     return finish("edges");
 }

@@ -232,7 +232,7 @@ static const uint32_t three_and_none[4] = {0x2518E403, 0x2518E405, 0x2518E40F, 0
 
 static void check_ran(struct plokamyr_ran ran) {
     CHECK(ran.reply == PLOKAMYR_DONE);
-    CHECK(ran.refused == PLOKAMYR_UNKNOWN_WORD);
+    CHECK(ran.refused == PLOKAMYR_FOREIGN_WORD);
     CHECK(ran.done == 3);
 }
 

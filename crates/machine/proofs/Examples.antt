@@ -79,6 +79,14 @@ request n got wanted = record { document = 2; number = n; got = got; wanted = wa
 one : Instruction → ℕ → ℕ → List ℕ
 one i a b = after (start a b 0 0) i
 
+-- level 0, access off, all else zero; and the replies to words there
+barred : State
+barred = record { vl = 128; level = 0; access = false; flags = flagsOf 0; x = replicate 31 0; p = replicate 16 allFalse }
+
+replies : List ℕ → List ℕ
+replies ws = map (λ (w : ℕ). numberOf (stepOf barred w .reply)) ws
+
+-- request 4: zero, and WHILELE with bit 31; BRKA, and SEL with S = 1; and WHILELE, which is ours
 pub examples : List Example
 examples =
     base 1 (one (While Less true (One true 0) Sz.S 1 2) 10 13) (gives 0b1010 10 0x0111 0 0)
@@ -100,10 +108,11 @@ examples =
     ∷ base 14 (read (decodeOf 0x25E55893)) (read (Ours (While Greater true (Pair 1) Sz.D 4 5)))
     ∷ base 14 (read (decodeOf 0x252A8C23)) (read (Ours (Saturating true false true Sz.B 1 3)))
     ∷ request 2 (after (withP (start 9 0 0 0) 8 (pack (testBit 0x0081))) (CntpCounter true Sz.B 8 1)) (gives 0b0000 0 0 0 0x0081)
+    ∷ request 4 (replies (0 ∷ 0xA5A24438 ∷ 0x25104441 ∷ 0x25434650 ∷ 0x25A24438 ∷ [])) (1 ∷ 1 ∷ 13 ∷ 13 ∷ 2 ∷ [])
     ∷ []
 
 pub as-wanted : map (λ e. e .got) examples ≡ map (λ e. e .wanted) examples
-unfolding start seen after gives read one base request examples testBit number elementBit count some afterLast scan bitAt pack active spread elements predicateLength hasBitFrom atLowest atHighest predTest nzcv flagsOf isLength hasStrayBit illegal withX withP withFlags readBy operandAt comparison clamp saturating allHeld whileElement counterOf counterFlags countEnd expanded whileOneOf whilePairOf whileCounterOf cntpCounterOf incDecOf saturatingOf pnextOf computeOf apply executeOf afterWord stepOf
+unfolding start seen after gives read one base request barred replies examples testBit number elementBit count some afterLast scan bitAt pack active spread elements predicateLength hasBitFrom atLowest atHighest predTest nzcv flagsOf isLength hasStrayBit illegal withX withP withFlags readBy operandAt comparison clamp saturating allHeld whileElement counterOf counterFlags countEnd expanded whileOneOf whilePairOf whileCounterOf cntpCounterOf incDecOf saturatingOf pnextOf computeOf apply executeOf afterWord stepOf
 as-wanted = refl
 
 -- what `counter-reads-alike` asks of a state is met: the counter of example 7

@@ -1,6 +1,5 @@
 -- Each reply of a step is given exactly when the table says, and what follows of the state. Assumes nothing.
-use mathlib.Core.Bool.{Bool, true, false, _&&_}
-use mathlib.Core.List.{List, [], _∷_}
+use mathlib.Core.Bool.{Bool, true, false}
 use mathlib.Core.Logic.{_↔_}
 use mathlib.Core.Path.{_≡_, refl, sym, ap, _∙_, subst}
 use Prim.Native.Nat.{ℕ, _≤_, _<_}
@@ -8,35 +7,29 @@ use native.Mathlib.Decide.{decLt}
 use native.Mathlib.Omega.{arith}
 use borrow.Author.Tests.{lt-ltb, le-ltb}
 use Rattle.bits.specs.Choice.{pick}
-use Rattle.bits.proofs.Searches.{never}
 use Rattle.replies.specs.declared.Reply.{Reply}
-use Rattle.replies.specs.declared.Reply.the-variants.{Done, UnknownWord, LevelTooLow, AccessOff, IllegalState}
+use Rattle.replies.specs.declared.Reply.the-variants.{Done, ForeignWord, LevelTooLow, AccessOff, IllegalState, UnsupportedForm}
 use Rattle.replies.specs.Reply.{isDone}
 use Rattle.registers.specs.declared.State.{State}
 use Rattle.registers.specs.Legal.{legal}
 use Rattle.words.specs.declared.Decoded.{Decoded}
 use Rattle.words.specs.declared.Decoded.the-variants.{Ours, Refused}
 use Rattle.words.specs.declared.Instruction.{Instruction}
-use Rattle.words.specs.Words.{Form, forms, reads, instructionIn, readBy, decodeOf, wordOf, inRange, levelOf}
+use Rattle.words.specs.Words.{hasOpcode, decodeOf, wordOf, inRange, levelOf}
 use Rattle.words.proofs.RoundTrip.{read-written}
+use Rattle.words.proofs.Refusals.{foreign-read, unread}
 use Rattle.instructions.specs.Operands.{registersOf}
 use Rattle.machine.specs.declared.Stepped.{Stepped}
 use Rattle.machine.specs.Execute.{executeOf}
 use Rattle.machine.specs.Given.{Given}
-use Rattle.machine.specs.Given.Given.{illegal, unknown, low, off, done}
+use Rattle.machine.specs.Given.Given.{illegal, foreign, unsupported, low, off, done}
 use Rattle.machine.specs.Step.{admissionOf, answered, afterWord, stepOf}
 use Rattle.machine.proofs.Frame.{Untouched, untouched}
 use Rattle.machine.proofs.Steps.{pick-yes, pick-no, step-legal}
 
--- a word that is none of ours is answered 1
-refused-unknown : (fs : List Form) (w : ℕ) (r : Reply) → readBy fs w ≡ Refused r → r ≡ UnknownWord
-unfolding readBy
-refused-unknown [] w r h = cc
-refused-unknown (f ∷ fs) w r h = go (reads f w) refl (refused-unknown fs w r)
-  where
-    go : (b : Bool) → reads f w ≡ b → (readBy fs w ≡ Refused r → r ≡ UnknownWord) → r ≡ UnknownWord
-    go true e rest = let z : _≡_ {A = ℕ} 0 1 = cc (pick-yes (reads f w) (Ours (instructionIn f w)) (readBy fs w) e) in absurd (omega arith)
-    go false e rest = rest (sym (pick-no _ _ _ e) ∙ h)
+-- a word that is refused is no instruction
+refused≢ours : {r : Reply} {i : Instruction} → Refused r ≡ Ours i → ⊥
+refused≢ours e = let z : _≡_ {A = ℕ} 0 1 = cc in omega arith
 
 -- ---- the reply of a legal state's step, from what the word is
 
@@ -68,7 +61,8 @@ illegal-is s w h = pick-no _ _ _ h
 -- a reply that the table gives is the step's
 pub given-reply : (s : State) (w : ℕ) (r : Reply) → Given s w r → stepOf s w .reply ≡ r
 given-reply s w IllegalState (illegal h) = ap (λ (t : Stepped). t .reply) (illegal-is s w h)
-given-reply s w UnknownWord (unknown ok h) = ap (λ (t : Stepped). t .reply) (refused-is s w ok UnknownWord h)
+given-reply s w ForeignWord (foreign ok h) = ap (λ (t : Stepped). t .reply) (refused-is s w ok ForeignWord (foreign-read w .1 h))
+given-reply s w UnsupportedForm (unsupported ok h k) = ap (λ (t : Stepped). t .reply) (refused-is s w ok UnsupportedForm (unread w h k))
 given-reply s w LevelTooLow (low i ok h l) = ap (λ (t : Stepped). t .reply) (reply-is s w ok i h LevelTooLow (too-low s w ok i h l))
 given-reply s w AccessOff (off i ok h l a) = ap (λ (t : Stepped). t .reply) (reply-is s w ok i h AccessOff (by-access s w ok i h false a l))
 given-reply s w Done (done i ok h l a) = ap (λ (t : Stepped). t .reply) (reply-is s w ok i h Done (by-access s w ok i h true a l))
@@ -81,8 +75,12 @@ row s w = by-legality (legal s) refl
     by-access′ i ok h l true a = (Done, done i ok h l a)
     by-access′ i ok h l false a = (AccessOff, off i ok h l a)
 
+    by-opcode : legal s ≡ true → (r : Reply) → decodeOf w ≡ Refused r → (b : Bool) → hasOpcode w ≡ b → (r : Reply) × Given s w r
+    by-opcode ok r h true o = (UnsupportedForm, unsupported ok o (λ i e. refused≢ours (sym h ∙ e)))
+    by-opcode ok r h false o = (ForeignWord, foreign ok o)
+
     by-word : legal s ≡ true → (d : Decoded) → decodeOf w ≡ d → (r : Reply) × Given s w r
-    by-word ok (Refused r) h = (UnknownWord, unknown ok (h ∙ ap Refused (refused-unknown forms w r h)))
+    by-word ok (Refused r) h = by-opcode ok r h (hasOpcode w) refl
     by-word ok (Ours i) h =
         elim (decLt (s .level) (levelOf i)) [
           | yes l ↦ (LevelTooLow, low i ok h l)
@@ -107,7 +105,8 @@ accepted-step s w i h e = go Done (exactly-when s w Done .0 e) refl
   where
     go : (r : Reply) → Given s w r → r ≡ Done → stepOf s w .state ≡ executeOf s i
     go IllegalState (illegal b) z = let n : _≡_ {A = ℕ} 0 1 = cc in absurd (omega arith)
-    go UnknownWord (unknown ok b) z = let n : _≡_ {A = ℕ} 0 1 = cc in absurd (omega arith)
+    go ForeignWord (foreign ok b) z = let n : _≡_ {A = ℕ} 0 1 = cc in absurd (omega arith)
+    go UnsupportedForm (unsupported ok b k) z = let n : _≡_ {A = ℕ} 0 1 = cc in absurd (omega arith)
     go LevelTooLow (low j ok b l) z = let n : _≡_ {A = ℕ} 0 1 = cc in absurd (omega arith)
     go AccessOff (off j ok b l a) z = let n : _≡_ {A = ℕ} 0 1 = cc in absurd (omega arith)
     go Done (done j ok b l a) z = ap (λ (t : Stepped). t .state) (reply-is s w ok i h Done (by-access s w ok i h true a (let same : levelOf j ≡ levelOf i = ap levelOf (let k : j ≡ i = cc in k) in omega arith)))
@@ -122,7 +121,8 @@ refused-step s w h = let (r, g) = row s w in go r g
   where
     go : (r : Reply) → Given s w r → stepOf s w .state ≡ s
     go IllegalState (illegal b) = ap (λ (t : Stepped). t .state) (illegal-is s w b)
-    go UnknownWord (unknown ok b) = ap (λ (t : Stepped). t .state) (refused-is s w ok UnknownWord b)
+    go ForeignWord (foreign ok b) = ap (λ (t : Stepped). t .state) (refused-is s w ok ForeignWord (foreign-read w .1 b))
+    go UnsupportedForm (unsupported ok b k) = ap (λ (t : Stepped). t .state) (refused-is s w ok UnsupportedForm (unread w b k))
     go LevelTooLow (low i ok b l) = ap (λ (t : Stepped). t .state) (reply-is s w ok i b LevelTooLow (too-low s w ok i b l))
     go AccessOff (off i ok b l a) = ap (λ (t : Stepped). t .state) (reply-is s w ok i b AccessOff (by-access s w ok i b false a l))
     go Done (done i ok b l a) = absurd (h (given-reply s w Done (done i ok b l a)))

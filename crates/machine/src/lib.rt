@@ -1,5 +1,5 @@
 // The machine: one step and a run of steps, over a state by value and (`engine`) over lent registers, with one meaning.
-// A step refuses in this order: 4 the state is illegal, 1 the word is none of ours, 2 the level is below the form's, 3 access is off; a refusal leaves the state as it was.
+// A step refuses in this order: 4 the state is illegal, 1 or 13 the word is none of ours, 2 the level is below the form's, 3 access is off; a refusal leaves the state as it was.
 // An accepted word executes its instruction: all registers are read before any is written, and nothing else is touched. A run answers for itself 0, or 4, and names the
 // reply to the word it stopped at.
 ghost use mathlib.Core.Path.{_≡_};

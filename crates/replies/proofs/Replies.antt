@@ -8,7 +8,7 @@ use Rattle.replies.specs.Reply.{numberOf}
 -- 0 is the number of one reply
 pub number-done : (r : Reply) → numberOf r ≡ 0 → r ≡ R.Done
 number-done R.Done e = refl
-number-done R.UnknownWord e = absurd (omega arith)
+number-done R.ForeignWord e = absurd (omega arith)
 number-done R.LevelTooLow e = absurd (omega arith)
 number-done R.AccessOff e = absurd (omega arith)
 number-done R.IllegalState e = absurd (omega arith)
@@ -20,3 +20,4 @@ number-done R.FieldPastRange e = absurd (omega arith)
 number-done R.BadWalkRegisters e = absurd (omega arith)
 number-done R.ListTooShort e = absurd (omega arith)
 number-done R.BudgetSpent e = absurd (omega arith)
+number-done R.UnsupportedForm e = absurd (omega arith)

@@ -8,7 +8,7 @@ use Rattle.replies.specs.declared.Reply.the-variants as R
 -- the number of each reply
 abbrev pub numberOf : Reply → ℕ
 numberOf R.Done = 0
-numberOf R.UnknownWord = 1
+numberOf R.ForeignWord = 1
 numberOf R.LevelTooLow = 2
 numberOf R.AccessOff = 3
 numberOf R.IllegalState = 4
@@ -20,6 +20,7 @@ numberOf R.FieldPastRange = 9
 numberOf R.BadWalkRegisters = 10
 numberOf R.ListTooShort = 11
 numberOf R.BudgetSpent = 12
+numberOf R.UnsupportedForm = 13
 
 -- nothing was refused
 abbrev pub isDone : Reply → Bool

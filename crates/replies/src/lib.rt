@@ -1,4 +1,4 @@
-// The replies: what a request is answered with, and the number of each, 0 to 12. 0 is done; every other refuses the request, and all but 12 then leave
+// The replies: what a request is answered with, and the number of each, 0 to 13. 0 is done; every other refuses the request, and all but 12 then leave
 // the state and lent memory as they were.
 ghost use mathlib.Core.Path.{_≡_};
 ghost use Rattle.replies.specs.Reply.{numberOf, isDone};
@@ -6,7 +6,8 @@ ghost use Rattle.replies.specs.Reply.{numberOf, isDone};
 // What a request is answered with.
 pub enum Reply {
     Done,
-    UnknownWord,
+    // The word's bits 31:24 are not 00100101.
+    ForeignWord,
     LevelTooLow,
     AccessOff,
     IllegalState,
@@ -18,6 +19,8 @@ pub enum Reply {
     BadWalkRegisters,
     ListTooShort,
     BudgetSpent,
+    // The word's bits 31:24 are 00100101, but its form is none of ours.
+    UnsupportedForm,
 }
 
 impl Reply {
@@ -27,7 +30,7 @@ impl Reply {
     {
         match self {
             Reply::Done => 0,
-            Reply::UnknownWord => 1,
+            Reply::ForeignWord => 1,
             Reply::LevelTooLow => 2,
             Reply::AccessOff => 3,
             Reply::IllegalState => 4,
@@ -39,6 +42,7 @@ impl Reply {
             Reply::BadWalkRegisters => 10,
             Reply::ListTooShort => 11,
             Reply::BudgetSpent => 12,
+            Reply::UnsupportedForm => 13,
         }
     }
 

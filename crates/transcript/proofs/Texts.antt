@@ -96,7 +96,7 @@ whole (l ∷ ls) at buffer h =
 
 reply-small : (r : Reply) → numberOf r < 100
 reply-small R.Done = lit< tt
-reply-small R.UnknownWord = lit< tt
+reply-small R.ForeignWord = lit< tt
 reply-small R.LevelTooLow = lit< tt
 reply-small R.AccessOff = lit< tt
 reply-small R.IllegalState = lit< tt
@@ -108,6 +108,7 @@ reply-small R.FieldPastRange = lit< tt
 reply-small R.BadWalkRegisters = lit< tt
 reply-small R.ListTooShort = lit< tt
 reply-small R.BudgetSpent = lit< tt
+reply-small R.UnsupportedForm = lit< tt
 
 end-most : (n : ℕ) → n ≤ 4096 → length (endLine n) ≤ 9
 unfolding endLine

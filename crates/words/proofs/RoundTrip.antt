@@ -2,7 +2,7 @@
 use Prim.Native.Nat.{ℕ, suc, _<_, _%_, _^_}
 use lib.ListN.{length, getD, drop}
 use mathlib.Core.Path.{_≡_, refl, sym, ap, ap₂, _∙_}
-use mathlib.Core.Bool.{Bool, true, false, _&&_, false≢true}
+use mathlib.Core.Bool.{Bool, true, false, _&&_}
 use mathlib.Core.List.{List, [], _∷_}
 use mathlib.Core.Logic.{_↔_, _⊎_, inl, inr}
 use native.Mathlib.Nat.{mod-eq-of-lt}
@@ -31,7 +31,7 @@ read-written i h =
     ∙ ap Dec.Ours (ap (from (f .build)) c ∙ build-fields i)
 
 -- a word is read by a form that it is a word of, or gets the one refusal
-abbrev Outcome : List Form → ℕ → Type 0
+abbrev pub Outcome : List Form → ℕ → Type 0
 Outcome fs w = ((n : ℕ) × (n < length fs) × (reads (getD fs n pfalseForm) w ≡ true) × (readBy fs w ≡ Dec.Ours (instructionIn (getD fs n pfalseForm) w))) ⊎ (readBy fs w ≡ Dec.Refused (refusal w))
 
 outcome-more : (f : Form) (fs : List Form) (w : ℕ) (b : Bool) → reads f w ≡ b → Outcome fs w → Outcome (f ∷ fs) w
@@ -39,8 +39,8 @@ outcome-more f fs w true h o = inl (0, omega arith, h, sym (hit f fs w (sym (tes
 outcome-more f fs w false h (inl (n, l, m, p)) = inl (suc n, omega arith, m, sym (skip f fs w (sym (tested f w)) h (sym p)))
 outcome-more f fs w false h (inr p) = inr (sym (skip f fs w (sym (tested f w)) h (sym p)))
 
-outcome : (fs : List Form) (w : ℕ) → Outcome fs w
-outcome [] w = inr (sym (none w))
+pub outcome : (fs : List Form) (w : ℕ) → Outcome fs w
+outcome [] w = inr (sym (none w refl))
 outcome (f ∷ fs) w = outcome-more f fs w (reads f w) refl (outcome fs w)
 
 abbrev rangeOf : List ℕ → Bool
@@ -102,16 +102,6 @@ encode-decode w i h e =
 -- no two forms share a word
 pub one-form : (m n w : ℕ) → m < length forms → n < length forms → reads (formAt m) w ≡ true → reads (formAt n) w ≡ true → m ≡ n
 one-form m n w a b h k = one-layout m n w a b (reads-matches (formAt m) w h) (reads-matches (formAt n) w k)
-
--- a word with a form's fixed bits, and with fields that the form leaves out, is refused
-pub left-out-read : (n w : ℕ) → n < length forms → matches (formAt n .layout) w ≡ true → from (formAt n .allowed) (cut (formAt n .layout) w) ≡ false → decodeOf w ≡ Dec.Refused (refusal w)
-left-out-read n w l h a = go (outcome forms w)
-  where
-    go : Outcome forms w → decodeOf w ≡ Dec.Refused (refusal w)
-    go (inl (k, b, r, p)) =
-        let e : k ≡ n = one-layout k n w b l (reads-matches (formAt k) w r) h in
-        absurd (false≢true (sym (ap (λ (x : Bool). x && matches (formAt n .layout) w) a) ∙ sym (ap (λ (i : ℕ). reads (formAt i) w) e) ∙ r))
-    go (inr p) = p
 
 -- a word is refused exactly when it is the word of no instruction whose fields are within their ranges
 pub refused-read : (w : ℕ) → w < 2 ^ 32 → (decodeOf w ≡ Dec.Refused (refusal w)) ↔ ((i : Instruction) → inRange i ≡ true → wordOf i ≡ w → ⊥)

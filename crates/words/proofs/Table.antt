@@ -1,17 +1,19 @@
--- The table's rules, each computed once over all its rows: every layout is a whole word, well formed, and no two forms share a word.
-use Prim.Native.Nat.{ℕ, zero, suc, _+_, _*_, _<_}
+-- The table's rules, each computed once over all its rows: every layout is a whole word, well formed, begins with the opcode, and no two forms share a word.
+use Prim.Native.Nat.{ℕ, zero, suc, _+_, _*_, _-_, _<_, _/_, _%_, _^_}
 use mathlib.Core.Path.{_≡_, refl, sym, ap, _∙_}
-use mathlib.Core.Bool.{Bool, true, false, _&&_}
+use mathlib.Core.Bool.{Bool, true, false, _&&_, false≢true}
 use mathlib.Core.List.{List, [], _∷_}
 use native.Mathlib.Omega.{arith}
 use lib.ListN.{length, getD, drop}
 use lib.Seq.{getD-drop}
-use lib.Dec.{eqb}
-use borrow.Author.Tests.{eqb-true}
-use Rattle.words.specs.Layout.{span, matches, cut, from}
-use Rattle.words.specs.Words.{flag, logicHasWord, Form, pfalseForm, forms, formAt, reads, instructionIn, readBy, decodeOf}
+use lib.Dec.{ltb, eqb}
+use lib.Pow as Pow
+use borrow.Author.Tests.{eqb-true, eq-eqb, ltb-true}
+use Rattle.words.specs.Layout.{Piece, span, slice, matches, cut, from}
+use Rattle.words.specs.Layout.Piece.{fixed, field}
+use Rattle.words.specs.Words.{flag, logicHasWord, Form, pfalseForm, forms, formAt, reads, instructionIn, hasOpcode, readBy, decodeOf}
 use Rattle.words.specs.declared.Decoded.the-variants.{Ours}
-use Rattle.words.proofs.Codec.{both, wellFormed}
+use Rattle.words.proofs.Codec.{both, and-pair, wellFormed}
 use Rattle.words.proofs.Clash.{clash, apart}
 use Rattle.words.proofs.Reading.{tested, hit, skip}
 
@@ -57,6 +59,41 @@ well-formed n = is-whole n .1
 -- a word of a form matches its layout
 pub reads-matches : (f : Form) (w : ℕ) → reads f w ≡ true → matches (f .layout) w ≡ true
 reads-matches f w h = both (from (f .allowed) (cut (f .layout) w)) (matches (f .layout) w) h .1
+
+-- a layout of 32 bits whose first piece fixes 31:24 to 00100101, and maybe more below them
+abbrev pub opens : List Piece → Bool
+opens [] = false
+opens (fixed n v ∷ ps) = eqb (n + span ps) 32 && (ltb 7 n && eqb (v / 2 ^ (n - 8)) 0b00100101)
+opens (field n ∷ ps) = false
+
+-- the highest eight bits of a slice
+top-of-slice : (s k w : ℕ) → slice s (8 + k) w / 2 ^ k ≡ slice (s + k) 8 w
+top-of-slice s k w = Pow.field (w / 2 ^ s) 8 k ∙ ap (λ (x : ℕ). x % 2 ^ 8) (Pow.shr-shr w s k)
+
+opened : (ps : List Piece) (w : ℕ) → opens ps ≡ true → matches ps w ≡ true → slice 24 8 w ≡ 0b00100101
+opened [] w o h = absurd (false≢true o)
+opened (fixed n v ∷ ps) w o h =
+    let (e, _) = both (eqb (slice (span ps) n w) v) (matches ps w) h in
+    let (l, r) = both (eqb (n + span ps) 32) (ltb 7 n && eqb (v / 2 ^ (n - 8)) 0b00100101) o in
+    let (m, t) = both (ltb 7 n) (eqb (v / 2 ^ (n - 8)) 0b00100101) r in
+    let wide : n + span ps ≡ 32 = eqb-true (n + span ps) 32 l in
+    let over : 7 < n = ltb-true 7 n m in
+    let low : 24 ≡ span ps + (n - 8) = omega arith in
+    let all : 8 + (n - 8) ≡ n = omega arith in
+    ap (λ (x : ℕ). slice x 8 w) low
+    ∙ sym (top-of-slice (span ps) (n - 8) w)
+    ∙ ap (λ (x : ℕ). slice (span ps) x w / 2 ^ (n - 8)) all
+    ∙ ap (λ (x : ℕ). x / 2 ^ (n - 8)) (eqb-true (slice (span ps) n w) v e)
+    ∙ eqb-true (v / 2 ^ (n - 8)) 0b00100101 t
+opened (field n ∷ ps) w o h = absurd (false≢true o)
+
+-- each layout begins so
+pub all-open : every (λ (f : Form). opens (f .layout)) forms ≡ true
+all-open = refl
+
+pub has-opcode : (n w : ℕ) → matches (formAt n .layout) w ≡ true → hasOpcode w ≡ true
+has-opcode n w h =
+    and-pair (eq-eqb (slice 24 8 w) 0b00100101 (opened (formAt n .layout) w (every-at (λ (f : Form). opens (f .layout)) forms pfalseForm n all-open refl) h)) refl
 
 not-both : (b : Bool) → (b ≡ true → ⊥) → b ≡ false
 not-both true h = absurd (h refl)

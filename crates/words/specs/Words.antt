@@ -9,9 +9,9 @@ use Rattle.bits.specs.Size.{shift}
 use Rattle.bits.specs.declared.Size.{Size}
 use Rattle.bits.specs.declared.Size.the-variants as Sz
 use Rattle.replies.specs.declared.Reply.{Reply}
-use Rattle.replies.specs.declared.Reply.the-variants.{UnknownWord, FieldPastRange}
+use Rattle.replies.specs.declared.Reply.the-variants.{ForeignWord, FieldPastRange, UnsupportedForm}
 use Rattle.words.specs.Layout.{Piece, upper, matches, cut, fits, place, FromFields, given, always, from}
-use Rattle.words.specs.Layout.Piece.{fixed}
+use Rattle.words.specs.Layout.Piece.{fixed, field}
 use Rattle.words.specs.Fields.{opcode, size, sf, U, lt, eq, D, vl, op, S, o2, o3, Rm, Rn, Rd, Rdn, Pd, Pg, Pm, Pn, Pv, Pdn, PNd, PNn}
 use Rattle.scalars.specs.While.{upward}
 use Rattle.scalars.specs.declared.Condition.{Condition}
@@ -219,9 +219,13 @@ reads f w = from (f .allowed) (cut (f .layout) w) && matches (f .layout) w
 abbrev pub instructionIn : Form → ℕ → Instruction
 instructionIn f w = from (f .build) (cut (f .layout) w)
 
--- the reply to a word that is not ours
+-- bits 31:24 of w are 00100101
+abbrev pub hasOpcode : ℕ → Bool
+hasOpcode w = matches (opcode ∷ field 24 ∷ []) w
+
+-- the reply to a word that is of none of the forms: 1 if its bits 31:24 are others, 13 if they are these
 abbrev pub refusal : ℕ → Reply
-refusal w = UnknownWord
+refusal w = pick (hasOpcode w) UnsupportedForm ForeignWord
 
 -- w read by the first of the forms that it is a word of
 unfoldable pub readBy : List Form → ℕ → Decoded

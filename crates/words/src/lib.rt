@@ -1,7 +1,7 @@
 // Instruction words: read, written, and the level that each asks.
-// The words of the table are ours and no others: any other is refused with 1. An instruction with a field past its range, or a combination that its form leaves out, is refused
-// with 9. An instruction written as a word reads back as itself, and every word that is taken is written back unchanged. Between word and instruction lies a row of
-// nine numbers: the form's, its fields from the highest bit down, zeros.
+// The words of the table are ours and no others: any other is refused, with 1 if its bits 31:24 are not 00100101, and with 13 if they are. An instruction with a field past its range,
+// or a combination that its form leaves out, is refused with 9. An instruction written as a word reads back as itself, and every word that is taken is written back unchanged.
+// Between word and instruction lies a row of nine numbers: the form's, its fields from the highest bit down, zeros.
 use bits::Size;
 use replies::Reply;
 use scalars::Condition;

@@ -9,7 +9,7 @@ use scalars::Condition;
 ghost use mathlib.Core.Path.{_≡_};
 ghost use lib.ListN.{drop};
 ghost use Rattle.words.specs.Layout.{slice};
-ghost use Rattle.words.specs.Words.{whileOneForm, whilePairForm, whileCounterForm, saturatingForm, incDecForm, cntpForm, cntpCounterForm, pnextForm, pfirstForm, ptestForm, pfalseForm, logicForm, conditionOf, sizeOf, operationBits, operationOf, flag, forms, instructionIn, readBy, decodeOf};
+ghost use Rattle.words.specs.Words.{whileOneForm, whilePairForm, whileCounterForm, saturatingForm, incDecForm, cntpForm, cntpCounterForm, pnextForm, pfirstForm, ptestForm, pfalseForm, logicForm, conditionOf, sizeOf, operationBits, operationOf, flag, forms, instructionIn, refusal as refusalOf, readBy, decodeOf};
 ghost use Rattle.words.specs.Inside.{tests};
 
 // Size 00 to 11; a larger number is taken for 11.
@@ -301,6 +301,16 @@ fn read_logic(w: u32) -> Instruction
     }
 }
 
+// The reply to a word that is none of ours.
+fn refusal(w: u32) -> Reply
+    ensures { λ r. ⌜ r ≡ refusalOf w ⌝ }
+{
+    if (w >> 24) % 256 == 0b00100101 {
+        return Reply::UnsupportedForm;
+    }
+    Reply::ForeignWord
+}
+
 // The forms that count.
 fn decode_count(w: u32) -> Decoded
     ensures { λ r. ⌜ r ≡ readBy (drop 3 forms) w ⌝ }
@@ -339,7 +349,7 @@ fn decode_predicate(w: u32) -> Decoded
     if is_logic(w) {
         return Decoded::Ours(read_logic(w));
     }
-    Decoded::Refused(Reply::UnknownWord)
+    Decoded::Refused(refusal(w))
 }
 
 // The instruction that a word is.

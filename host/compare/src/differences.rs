@@ -80,7 +80,7 @@ pub fn show_state(state: &State) -> String {
 /// The word and its row.
 pub fn show_word(word: u32) -> String {
     match model::decode(word) {
-        None => format!("word {word:08x}, none of ours\n"),
+        None => format!("word {word:08x}, refused with {}\n", model::decode_refusal(word)),
         Some(row) => format!("word {word:08x}, {}, row {row:?}\n", FORMS[usize::from(row[0])]),
     }
 }

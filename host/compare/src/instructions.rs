@@ -45,6 +45,14 @@ pub const PNEXT: u8 = 7;
 /// The number of predicate logic. The fields are op, S, Pm, Pg, o2, Pn, o3, Pd.
 pub const LOGIC: u8 = 11;
 
+/// The highest byte of our words.
+pub const HIGHEST: u32 = 0x25;
+
+/// Whether a word has another highest byte than ours: exactly these are refused with 1.
+pub fn is_foreign(word: u32) -> bool {
+    word >> 24 != HIGHEST
+}
+
 /// What a form leaves out: of predicate logic, SEL with S = 1. No other leaves anything out.
 pub fn is_left_out(row: &Row) -> bool {
     matches!(*row, [LOGIC, 0, 1, _, _, 1, _, 1, _])
@@ -105,8 +113,23 @@ pub fn doubtful(random: &mut Random) -> u32 {
     }
 }
 
+/// A word with another highest byte, which is else a word of ours.
+pub fn foreign(random: &mut Random) -> u32 {
+    accepted(random) ^ (1 + random.below(255) as u32) << 24
+}
+
+/// A word 25xxxxxx of no form.
+pub fn unsupported(random: &mut Random) -> u32 {
+    loop {
+        let word = HIGHEST << 24 | random.below(1 << 24) as u32;
+        if model::decode(word).is_none() && !is_left_out_word(word) {
+            return word;
+        }
+    }
+}
+
 /// A word of predicate logic that is left out.
-fn left_out(random: &mut Random) -> u32 {
+pub fn left_out(random: &mut Random) -> u32 {
     let [pm, pg, pn, pd] = [(); 4].map(|()| random.below(16) as u8);
     logic_word(&[LOGIC, 0, 1, pm, pg, 1, pn, 1, pd])
 }

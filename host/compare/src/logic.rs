@@ -70,7 +70,7 @@ pub struct Logic;
 impl Kind for Logic {
     type Input = (State, u32);
     const NAME: &'static str = "logic";
-    const REPLIES: &'static [u8] = &[0, 1];
+    const REPLIES: &'static [u8] = &[0, 13];
     const FORMS: Forms = Forms::None;
     const NOTES: &'static [&'static str] = &[
         "AND",
@@ -121,7 +121,7 @@ impl Kind for Logic {
         seen.reply(reply);
         match decode(*word) {
             Some(row) => note(seen, state, &after, &row),
-            None => seen.note_if(reply == 1 && after == *state, "SEL with S refused"),
+            None => seen.note_if(reply == 13 && after == *state, "SEL with S refused"),
         }
         differences.outcome()
     }

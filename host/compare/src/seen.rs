@@ -5,9 +5,12 @@ use compare::instructions::FORMS;
 use compare::states::LENGTHS;
 use model::Row;
 
+/// The replies of the second program are the numbers below this.
+const REPLIES: u8 = 14;
+
 pub struct Seen {
     pub cases: u64,
-    replies: [u64; 13],
+    replies: [u64; REPLIES as usize],
     forms: [[u64; LENGTHS.len()]; FORMS.len()],
     notes: Vec<(&'static str, u64)>,
 }
@@ -15,7 +18,7 @@ pub struct Seen {
 impl Seen {
     pub fn new(notes: &[&'static str]) -> Seen {
         let notes = notes.iter().map(|&name| (name, 0)).collect();
-        Seen { cases: 0, replies: [0; 13], forms: [[0; LENGTHS.len()]; FORMS.len()], notes }
+        Seen { cases: 0, replies: [0; REPLIES as usize], forms: [[0; LENGTHS.len()]; FORMS.len()], notes }
     }
 
     pub fn reply(&mut self, reply: u8) {
@@ -64,7 +67,7 @@ impl Seen {
     /// What should have been seen and was not, or should not have been and was.
     pub fn missing(&self, replies: &[u8], forms: Forms) -> Vec<String> {
         let mut missing = Vec::new();
-        for reply in 0..13 {
+        for reply in 0..REPLIES {
             if (self.replies[usize::from(reply)] > 0) != replies.contains(&reply) {
                 missing.push(format!("reply {reply}, or it should not be there"));
             }

@@ -19,13 +19,19 @@ const STEP_KIND: u64 = 11;
 impl Kind for Steps {
     type Input = (State, u32);
     const NAME: &'static str = "steps";
-    const REPLIES: &'static [u8] = &[0, 1, 2, 3, 4];
+    const REPLIES: &'static [u8] = &[0, 1, 2, 3, 4, 13];
     const FORMS: Forms = Forms::EachAtEachLength;
     const NOTES: &'static [&'static str] = &[
         "bad vl",
         "bad level",
         "stray bits",
-        "illegal with an unknown word",
+        "illegal with a foreign word",
+        "illegal with an unsupported form",
+        "1 at level 0",
+        "1 without access",
+        "13 at level 0",
+        "13 without access",
+        "SEL with S refused",
         "WHILE with none",
         "WHILE with some",
         "WHILE with all",
@@ -38,7 +44,6 @@ impl Kind for Steps {
         "CNTP counter, another answer up to bit 14",
         "X31 named",
         "a register twice",
-        "SEL with S refused",
     ];
 
     fn numbers() -> impl Iterator<Item = u64> {
@@ -66,7 +71,7 @@ impl Kind for Steps {
         seen.reply(reply);
         match reply {
             0 => note_accepted(seen, state, &after, &decode(*word).expect("it was accepted")),
-            1 => seen.note_if(instructions::is_left_out_word(*word), "SEL with S refused"),
+            1 | 13 => note_none_of_ours(seen, state, *word, reply),
             4 => note_illegal(seen, state, *word),
             _ => {}
         }
@@ -94,7 +99,20 @@ fn note_illegal(seen: &mut Seen, state: &State, word: u32) {
     seen.note_if(bad_vl, "bad vl");
     seen.note_if(state.level > 3, "bad level");
     seen.note_if(!bad_vl && state.level <= 3, "stray bits");
-    seen.note_if(decode(word).is_none(), "illegal with an unknown word");
+    let foreign = instructions::is_foreign(word);
+    seen.note_if(foreign, "illegal with a foreign word");
+    seen.note_if(!foreign && decode(word).is_none(), "illegal with an unsupported form");
+}
+
+/// A word that was refused with 1 or 13. Both must be seen where 2 and 3 would be given to a word of ours.
+fn note_none_of_ours(seen: &mut Seen, state: &State, word: u32, reply: u8) {
+    let [low, off] = match reply {
+        1 => ["1 at level 0", "1 without access"],
+        _ => ["13 at level 0", "13 without access"],
+    };
+    seen.note_if(state.level == 0, low);
+    seen.note_if(!state.access, off);
+    seen.note_if(reply == 13 && instructions::is_left_out_word(word), "SEL with S refused");
 }
 
 fn note_accepted(seen: &mut Seen, before: &State, after: &State, row: &Row) {
@@ -159,7 +177,7 @@ impl Kind for Runs {
     type Input = (State, Vec<u32>);
     const NAME: &'static str = "runs";
     /// That of the run, or to the word that it stopped at.
-    const REPLIES: &'static [u8] = &[0, 1, 2, 3, 4];
+    const REPLIES: &'static [u8] = &[0, 1, 2, 3, 4, 13];
     const FORMS: Forms = Forms::EachAtEachLength;
     const NOTES: &'static [&'static str] = &[
         "no words",
@@ -168,6 +186,13 @@ impl Kind for Runs {
         "refused at the first word",
         "refused at a later word",
         "words after a refused one",
+        "1 after words done",
+        "1 at level 0",
+        "1 without access",
+        "13 after words done",
+        "13 at level 0",
+        "13 without access",
+        "SEL with S refused",
     ];
 
     fn numbers() -> impl Iterator<Item = u64> {
@@ -246,4 +271,9 @@ fn note_run(seen: &mut Seen, state: &State, words: &[u32], ran: &Ran) {
     seen.note_if(ran.done == 0 && ran.refused != 0, "refused at the first word");
     seen.note_if(ran.refused != 0 && ran.done + 1 < words.len(), "words after a refused one");
     seen.note_if(ran.refused != 0 && ran.done > 0, "refused at a later word");
+    if matches!(ran.refused, 1 | 13) {
+        note_none_of_ours(seen, state, words[ran.done], ran.refused);
+        let later = if ran.refused == 1 { "1 after words done" } else { "13 after words done" };
+        seen.note_if(ran.done > 0, later);
+    }
 }

@@ -19,10 +19,18 @@ impl Kind for Texts {
     type Input = Vec<u8>;
     const NAME: &'static str = "texts";
     /// Those of the image or of its last word stepped.
-    const REPLIES: &'static [u8] = &[0, 1, 2, 3, 5, 6, 7];
+    const REPLIES: &'static [u8] = &[0, 1, 2, 3, 5, 6, 7, 13];
     const FORMS: Forms = Forms::EachAtEachLength;
-    const NOTES: &'static [&'static str] =
-        &["buffers", "no text", "a part of the lines", "a later line without an earlier", "4,096 lines"];
+    const NOTES: &'static [&'static str] = &[
+        "buffers",
+        "no text",
+        "a part of the lines",
+        "a later line without an earlier",
+        "4,096 lines",
+        "4,096 lines, the last with 13",
+        "1 after words done",
+        "13 after words done",
+    ];
 
     fn numbers() -> impl Iterator<Item = u64> {
         0..1_500
@@ -43,7 +51,11 @@ impl Kind for Texts {
             true => instructions::accepted(random),
             false => instructions::any(random),
         });
-        let image = damage::image(&state, &words.collect::<Vec<_>>());
+        let mut words: Vec<u32> = words.collect();
+        if number.is_multiple_of(200) {
+            words[4095] = instructions::unsupported(random); // the longest text: this reply has two digits
+        }
+        let image = damage::image(&state, &words);
         let damage = if long || random.one_in(2) { Damage::None } else { damage::any(random, &image, vl) };
         damage::damaged(&image, damage)
     }
@@ -95,10 +107,14 @@ fn note(seen: &mut Seen, image: &[u8], text: &[u8]) {
     }
     let ran = model::run(&reading.state, &words[..reading.count]);
     seen.reply(ran.refused);
+    seen.note_if(ran.refused == 1 && ran.done > 0, "1 after words done");
+    seen.note_if(ran.refused == 13 && ran.done > 0, "13 after words done");
     for &word in &words[..ran.done] {
         seen.form(&model::decode(word).expect("it was executed"), reading.state.vl);
     }
-    seen.note_if(text.iter().filter(|&&byte| byte == b'\n').count() == 4097, "4,096 lines");
+    let all = text.iter().filter(|&&byte| byte == b'\n').count() == 4097;
+    seen.note_if(all, "4,096 lines");
+    seen.note_if(all && ran.refused == 13, "4,096 lines, the last with 13");
 }
 
 fn utf8(text: &[u8]) -> String {

@@ -4,7 +4,7 @@ use crate::boundary;
 use crate::differences::{show_word, Differences, Outcome};
 use crate::kind::{Forms, Kind};
 use crate::seen::Seen;
-use compare::instructions::{self, FORMS, LOGIC, WIDTHS};
+use compare::instructions::{self, FORMS, HIGHEST, LOGIC, WIDTHS};
 use compare::random::Random;
 use model::Row;
 use plokamyr::{Form, Reply};
@@ -40,18 +40,21 @@ fn library_encode(row: &Row) -> (u32, u32) {
     (reply, lent[1])
 }
 
-/// All words 25xxxxxx by their low 24 bits, then others.
+/// All words 25xxxxxx by their low 24 bits; then others: those at the ends, then the 255 other highest bytes in turn, each
+/// over the rest of a word of ours and over any.
 pub struct Words;
 
 const OURS: u64 = 1 << 24;
 const OTHERS: u64 = 1_000_000;
+const ENDS: [u32; 4] = [0, 0x24FF_FFFF, 0x2600_0000, 0xFFFF_FFFF];
 
 impl Kind for Words {
     type Input = u32;
     const NAME: &'static str = "words";
-    const REPLIES: &'static [u8] = &[0, 1];
+    const REPLIES: &'static [u8] = &[0, 1, 13];
     const FORMS: Forms = Forms::Each;
-    const NOTES: &'static [&'static str] = &["outside 25xxxxxx", "SEL with S refused"];
+    const NOTES: &'static [&'static str] =
+        &["ours but for the highest byte", "ours but for one bit of it", "24ffffff", "26000000", "SEL with S refused"];
 
     fn numbers() -> impl Iterator<Item = u64> {
         0..OURS + OTHERS
@@ -59,15 +62,15 @@ impl Kind for Words {
 
     fn make(seed: u64, number: u64) -> u32 {
         if number < OURS {
-            return 0x2500_0000 | number as u32;
+            return HIGHEST << 24 | number as u32;
+        }
+        let other = (number - OURS) as usize;
+        if let Some(&end) = ENDS.get(other) {
+            return end;
         }
         let random = &mut Random::new(seed, WORD_KIND, number);
-        let word = random.next() as u32;
-        match random.below(4) {
-            0 => instructions::accepted(random) ^ 1 << (24 + random.below(8)), // ours but for the highest byte
-            _ if word >> 24 == 0x25 => word ^ 0x8000_0000,
-            _ => word,
-        }
+        let word = if other.is_multiple_of(2) { instructions::accepted(random) } else { random.next() as u32 };
+        under(HIGHEST ^ (1 + other as u32 / 2 % 255), word)
     }
 
     fn show(word: &u32) -> String {
@@ -77,14 +80,8 @@ impl Kind for Words {
     fn compare(&word: &u32, seen: &mut Seen) -> Outcome {
         let (reply, row) = library_decode(word);
         let mut differences = Differences::default();
-        seen.note_if(word >> 24 != 0x25, "outside 25xxxxxx");
         let Some(second) = model::decode(word) else {
-            differences.field("reply", reply, 1);
-            differences.field("row", row, [CANARY; 9]);
-            differences.field("the wrapper's row", plokamyr::decode(word), Err(Reply::UnknownWord));
-            seen.reply(1);
-            seen.note_if(instructions::is_left_out_word(word), "SEL with S refused");
-            return differences.outcome();
+            return compare_refused(word, (reply, row), seen, differences);
         };
         differences.field("reply", reply, 0);
         differences.field("row", row, second);
@@ -95,6 +92,27 @@ impl Kind for Words {
         seen.form(&second, ANY_LENGTH);
         differences.outcome()
     }
+}
+
+/// A word with another highest byte.
+fn under(highest: u32, word: u32) -> u32 {
+    highest << 24 | word & 0x00FF_FFFF
+}
+
+/// A word that the second program does not read: reply and row of the library, and what the wrapper answers.
+fn compare_refused(word: u32, library: (u32, Row), seen: &mut Seen, mut differences: Differences) -> Outcome {
+    let second = model::decode_refusal(word);
+    differences.field("reply and row", library, (u32::from(second), [CANARY; 9]));
+    let named = if instructions::is_foreign(word) { Reply::ForeignWord } else { Reply::UnsupportedForm };
+    differences.field("the wrapper's row", plokamyr::decode(word), Err(named));
+    seen.reply(second);
+    let ours = instructions::is_foreign(word) && model::decode(under(HIGHEST, word)).is_some();
+    seen.note_if(ours, "ours but for the highest byte");
+    seen.note_if(ours && (word >> 24 ^ HIGHEST).is_power_of_two(), "ours but for one bit of it");
+    seen.note_if(word == 0x24FF_FFFF, "24ffffff");
+    seen.note_if(word == 0x2600_0000, "26000000");
+    seen.note_if(instructions::is_left_out_word(word), "SEL with S refused");
+    differences.outcome()
 }
 
 /// A row in the wrapper's type.
@@ -186,4 +204,21 @@ fn note(seen: &mut Seen, row: &Row, refused: bool) {
     let in_range = fields.clone().all(|(field, end)| field < end);
     seen.note_if(refused && in_range && instructions::is_left_out(row), "SEL with S refused");
     seen.note_if(row[1 + widths.len()..].iter().any(|&number| number != 0), "junk after the fields");
+}
+
+#[cfg(test)]
+mod tests {
+    use super::*;
+    use std::collections::HashSet;
+
+    /// Each of the 255 other highest bytes is met, those with one other bit among them, over a word of ours and over another.
+    #[test]
+    fn every_other_highest_byte_is_made() {
+        let mut made = HashSet::new();
+        for word in (OURS..OURS + OTHERS).map(|number| Words::make(1, number)) {
+            assert!(instructions::is_foreign(word), "{word:08x}");
+            made.insert((word >> 24, model::decode(under(HIGHEST, word)).is_some()));
+        }
+        assert_eq!(made.len(), 2 * 255);
+    }
 }

@@ -19,4 +19,4 @@ pub use state::{Flags, State};
 pub use step::{run, step, Ran};
 pub use text::{text, text_in};
 pub use walk::{walk, Walked};
-pub use words::{decode, encode, Row};
+pub use words::{decode, decode_refusal, encode, Row};

@@ -1,7 +1,7 @@
 //! "Numbers of the replies".
 
 pub const DONE: u8 = 0;
-pub const UNKNOWN_WORD: u8 = 1;
+pub const FOREIGN_WORD: u8 = 1;
 pub const LEVEL_TOO_LOW: u8 = 2;
 pub const ACCESS_OFF: u8 = 3;
 pub const ILLEGAL_STATE: u8 = 4;
@@ -13,3 +13,4 @@ pub const BUFFER_TOO_SMALL: u8 = 8;
 pub const BAD_WALK_REGISTERS: u8 = 10;
 pub const LIST_TOO_SHORT: u8 = 11;
 pub const BUDGET_SPENT: u8 = 12;
+pub const UNSUPPORTED_FORM: u8 = 13; // request K4

@@ -3,7 +3,7 @@
 use crate::execute::execute;
 use crate::reply::*;
 use crate::state::State;
-use crate::words::{decode, level};
+use crate::words::{decode, decode_refusal, level};
 
 /// The run's own reply, that to the word it stopped at, and the words done before.
 #[derive(Clone, PartialEq, Eq, Debug)]
@@ -14,13 +14,14 @@ pub struct Ran {
     pub state: State,
 }
 
-/// Executes a word on the state where it stands. "Step order: 4, 1, 2, 3"; refused, it leaves the state as it was.
+/// Executes a word on the state where it stands. "Step order: 4, 1, 2, 3", and "13 stands in 1's place in every order":
+/// 4, 1 or 13, 2, 3. Refused, it leaves the state as it was.
 pub fn step(state: &mut State, word: u32) -> u8 {
     if !state.legal() {
         return ILLEGAL_STATE;
     }
     let Some(row) = decode(word) else {
-        return UNKNOWN_WORD;
+        return decode_refusal(word);
     };
     if state.level < level(&row) {
         return LEVEL_TOO_LOW;

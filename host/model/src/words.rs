@@ -1,5 +1,6 @@
 //! The words: one table, from which they are both read and written.
 
+use crate::reply::{FOREIGN_WORD, UNSUPPORTED_FORM};
 use std::sync::OnceLock;
 
 /// An instruction as numbers: its form, then the form's fields from the highest bit down, then zeros.
@@ -68,7 +69,7 @@ pub fn level(row: &Row) -> u8 {
     }
 }
 
-/// The row of a word; None if it is "none of the above".
+/// The row of a word; None, which is the reply of `decode_refusal`, if it is "none of the above".
 pub fn decode(word: u32) -> Option<Row> {
     let form = layouts().iter().position(|layout| word & layout.mask == layout.fixed)?;
     let mut row = [0; 9];
@@ -80,6 +81,16 @@ pub fn decode(word: u32) -> Option<Row> {
         return None;
     }
     Some(row)
+}
+
+/// What a word is answered with that `decode` does not read: "Reply 1 now means that bits 31:24 are not 00100101. New reply
+/// 13 means that they are, but the form isn't ours."
+pub fn decode_refusal(word: u32) -> u8 {
+    if word >> 24 == 0b0010_0101 {
+        UNSUPPORTED_FORM
+    } else {
+        FOREIGN_WORD
+    }
 }
 
 /// The word of a row; None (reply 9) if its form or a field is past its range, if it has a number after its fields, or

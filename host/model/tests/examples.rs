@@ -1,4 +1,5 @@
-//! Document 01's fourteen examples, its program, and the errors that it has seen made; predicate logic; counters read.
+//! Document 01's fourteen examples, its program, and the errors that it has seen made; predicate logic; counters read; foreign
+//! words and unsupported forms.
 
 use model::*;
 use std::fs;
@@ -256,22 +257,58 @@ fn masks() {
     assert_eq!(state.x[30], 1); // bit 2 is an H element's lowest, bit 5 is not
 }
 
+/// Another highest byte than 25: the ends of the words, its neighbours, and WHILELO p0.s, x1, x2 but for one bit of it.
+const FOREIGN: [u32; 12] = [
+    0x0000_0000,
+    0xffff_ffff,
+    0x24ff_ffff,
+    0x2600_0000,
+    0x24a2_1c20,
+    0x27a2_1c20,
+    0x21a2_1c20,
+    0x2da2_1c20,
+    0x35a2_1c20,
+    0x05a2_1c20,
+    0x65a2_1c20,
+    0xa5a2_1c20,
+];
+
+/// The first and the last under 25; BRKA p1.b, p1/z, p2.b; PFALSE and WHILELO but for one bit; SEL with S = 1.
+const UNSUPPORTED: [u32; 6] = [0x2500_0000, 0x25ff_ffff, 0x2510_4441, 0x2518_e410, 0x25a2_5c20, 0x2543_4650];
+
+/// All of these, with the reply of each.
+fn none_of_ours() -> impl Iterator<Item = (u32, u8)> {
+    FOREIGN.map(|word| (word, 1)).into_iter().chain(UNSUPPORTED.map(|word| (word, 13)))
+}
+
 #[test]
 fn refusals_of_a_step_in_their_order() {
     let word = 0x25a2_1c20; // WHILELO p0.s, x1, x2: level 1
     let mut state = ready();
     (state.level, state.access) = (0, false);
     state.p[15] = low(0x1_0000);
-    assert_eq!(step(&mut state.clone(), 0), 4);
+    assert!(none_of_ours().all(|(word, _)| step(&mut state.clone(), word) == 4));
     assert_eq!(run(&state, &[]).reply, 4);
     state.p[15] = low(0);
-    assert_eq!(step(&mut state, 0), 1);
+    assert!(none_of_ours().all(|(word, reply)| step(&mut state.clone(), word) == reply));
     assert_eq!(step(&mut state, word), 2);
     state.level = 1;
     assert_eq!(step(&mut state, word), 3);
+    assert!(none_of_ours().all(|(word, reply)| step(&mut state.clone(), word) == reply));
     state.access = true;
     assert_eq!(step(&mut state, word & !(1 << 10)), 2); // WHILEHS is SVE2
     assert_eq!(step(&mut state, word), 0);
+}
+
+/// "Reply 1 now means that bits 31:24 are not 00100101. New reply 13 means that they are, but the form isn't ours."
+#[test]
+fn foreign_words_and_unsupported_forms() {
+    for (word, reply) in none_of_ours() {
+        assert_eq!((decode(word), decode_refusal(word)), (None, reply), "{word:08x}");
+        let mut state = truth_table();
+        assert_eq!(step(&mut state, word), reply, "{word:08x}");
+        assert_eq!(state, truth_table());
+    }
 }
 
 #[test]
@@ -283,12 +320,17 @@ fn a_run_stops_at_a_refused_word() {
     let ran = run(&state, &[word, word & !(1 << 10), word]);
     assert_eq!((ran.state.p[0], ran.state.flags), (low(0x0111), nzc(1, 0, 1)));
     assert_eq!(numbers(ran), (0, 2, 1));
+    for (other, reply) in none_of_ours() {
+        assert_eq!(numbers(run(&state, &[word, other, word])), (0, reply, 1));
+    }
     assert_eq!(numbers(run(&state, &[word, word])), (0, 0, 2));
     assert_eq!(numbers(run(&state, &[])), (0, 0, 0));
     state.vl = 100;
-    let ran = run(&state, &[word, 0]);
-    assert_eq!(ran.state, state);
-    assert_eq!(numbers(ran), (4, 0, 0));
+    for words in [[word, 0], [0x2500_0000, word]] {
+        let ran = run(&state, &words);
+        assert_eq!(ran.state, state);
+        assert_eq!(numbers(ran), (4, 0, 0));
+    }
 }
 
 // ---- predicate logic ----
@@ -393,7 +435,7 @@ fn logic_of_a_register_twice() {
     assert_eq!((state.p[3], state.flags), (low(0), nzc(0, 1, 1)));
 }
 
-/// "SEL with S=1 is not ours (1); the writer of words answers it with 9".
+/// "SEL with S=1 is not ours", which is 13 since its bits 31:24 are; "the writer of words answers it with 9".
 #[test]
 fn sel_does_not_set_flags() {
     for register in 0..16 {
@@ -403,7 +445,7 @@ fn sel_does_not_set_flags() {
         assert_eq!(encode(&row(1)), None);
         assert_eq!(decode(word | 1 << 22), None);
         let mut state = truth_table();
-        assert_eq!(step(&mut state, word | 1 << 22), 1);
+        assert_eq!(step(&mut state, word | 1 << 22), 13);
         assert_eq!(state, truth_table());
     }
 }
@@ -428,7 +470,8 @@ fn fixed_words() {
     assert_eq!(encode(&[12, 0, 0, 0, 0, 0, 0, 0, 0]), None);
 }
 
-/// Every word that decodes is written back as itself, and there are as many as the forms' fields have values.
+/// Every word that decodes is written back as itself, and there are as many as the forms' fields have values. All others are
+/// of an unsupported form.
 #[test]
 fn decode_and_encode_agree() {
     let mut known = [0; 12];
@@ -436,13 +479,14 @@ fn decode_and_encode_agree() {
         if let Some(row) = decode(word) {
             assert_eq!(encode(&row), Some(word));
             known[usize::from(row[0])] += 1;
+        } else {
+            assert_eq!(decode_refusal(word), 13, "{word:08x}");
         }
     }
     let field_bits = [20, 18, 19, 14, 12, 15, 12, 10, 8, 8, 4, 20];
     let mut values = field_bits.map(|bits| 1 << bits);
     values[11] -= 1 << 16; // SEL with S = 1 and any four registers
     assert_eq!(known, values);
-    assert_eq!(decode(0x24a2_1c20), None);
 }
 
 // ---- the walk ----
@@ -513,10 +557,15 @@ fn image_of(state: &State, words: &[u32]) -> Vec<u8> {
     image
 }
 
-fn program() -> Vec<u8> {
+/// WHILELO p0.s, x1, x2, PNEXT p1.b, p0, p1.b, and a word.
+fn program_with(last: u32) -> Vec<u8> {
     let mut state = ready();
     (state.level, state.x[1], state.x[2]) = (1, 10, 13);
-    image_of(&state, &[0x25a2_1c20, 0x2519_c401, 0])
+    image_of(&state, &[0x25a2_1c20, 0x2519_c401, last])
+}
+
+fn program() -> Vec<u8> {
+    program_with(0)
 }
 
 #[test]
@@ -530,12 +579,22 @@ fn the_program() {
     assert_eq!(&buffer[length..], b"......");
 }
 
+/// "The first example program still writes 1 for 00000000", and 13 for what has 25 in its highest byte.
+#[test]
+fn the_program_with_another_last_word() {
+    for (word, reply) in none_of_ours() {
+        let lines = format!("0 25a21c20 0 1010\n1 2519c401 0 1010\n2 {word:08x} {reply} 1010\nend 2\n");
+        assert_eq!(text(&program_with(word)), lines.as_bytes());
+    }
+}
+
 /// The images of `examples/`, with what each prints.
 #[test]
 fn the_examples() {
     let folder = concat!(env!("CARGO_MANIFEST_DIR"), "/../../examples");
     for name in [
-        "first", "tail", "logic", "counters", "sparse", "level", "none", "cut", "empty", "count", "content", "trailing",
+        "first", "tail", "logic", "counters", "sparse", "level", "newer", "none", "cut", "empty", "count", "content",
+        "trailing",
     ] {
         let image = fs::read(format!("{folder}/{name}.image")).unwrap();
         let lines = fs::read(format!("{folder}/{name}.out")).unwrap();

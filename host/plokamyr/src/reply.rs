@@ -22,7 +22,7 @@ use std::fmt;
 /// # fn of_a_step(reply: Reply) -> bool {
 /// match reply {
 ///     Done => true,
-///     UnknownWord | LevelTooLow | AccessOff | IllegalState => false,
+///     ForeignWord | UnsupportedForm | LevelTooLow | AccessOff | IllegalState => false,
 ///     ImageCut | NotAllowed | TrailingBytes | BufferTooSmall => false,
 ///     FieldPastRange | BadWalkRegisters | ListTooShort | BudgetSpent => false,
 ///     Other(_) => false,
@@ -35,8 +35,8 @@ use std::fmt;
 pub enum Reply {
     /// 0.
     Done,
-    /// 1: the word is no instruction of ours.
-    UnknownWord,
+    /// 1: bits 31:24 of the word are not 00100101.
+    ForeignWord,
     /// 2: the state's level is below the form's.
     LevelTooLow,
     /// 3.
@@ -59,6 +59,8 @@ pub enum Reply {
     ListTooShort,
     /// 12: the walk has not ended. The only refusal that keeps the work done so far.
     BudgetSpent,
+    /// 13: bits 31:24 of the word are 00100101, but its form is none of ours, as with SEL with S = 1.
+    UnsupportedForm,
     /// A number that has no name here. [`Reply::from_number`] gives it for no other.
     Other(u32),
 }
@@ -67,7 +69,7 @@ impl Reply {
     /// Those that have a name here, each at the place of its number.
     pub const ALL: &'static [Reply] = &[
         Reply::Done,
-        Reply::UnknownWord,
+        Reply::ForeignWord,
         Reply::LevelTooLow,
         Reply::AccessOff,
         Reply::IllegalState,
@@ -79,6 +81,7 @@ impl Reply {
         Reply::BadWalkRegisters,
         Reply::ListTooShort,
         Reply::BudgetSpent,
+        Reply::UnsupportedForm,
     ];
 
     /// The reply of a number.
@@ -94,7 +97,7 @@ impl Reply {
     fn number_and_words(self) -> (u32, &'static str) {
         match self {
             Reply::Done => (0, "done"),
-            Reply::UnknownWord => (1, "word is no instruction of ours"),
+            Reply::ForeignWord => (1, "word is foreign: its bits 31:24 are not 00100101"),
             Reply::LevelTooLow => (2, "level is below what the instruction asks"),
             Reply::AccessOff => (3, "access is off"),
             Reply::IllegalState => (4, "vector length, level or a predicate of the state is not allowed"),
@@ -106,6 +109,7 @@ impl Reply {
             Reply::BadWalkRegisters => (10, "register or size of a walk is not allowed"),
             Reply::ListTooShort => (11, "list has fewer places than there are positions to visit"),
             Reply::BudgetSpent => (12, "budget is spent before the walk has ended"),
+            Reply::UnsupportedForm => (13, "form of the word is not supported, though its bits 31:24 are 00100101"),
             Reply::Other(number) => (number, "reply without a name here"),
         }
     }
@@ -126,6 +130,6 @@ impl fmt::Display for Reply {
 ///     let row = plokamyr::decode(word)?;
 ///     Ok(row.fields[0])
 /// }
-/// assert_eq!(first_field(0).unwrap_err().to_string(), "word is no instruction of ours (reply 1)");
+/// assert_eq!(first_field(0).unwrap_err().to_string(), "word is foreign: its bits 31:24 are not 00100101 (reply 1)");
 /// ```
 impl Error for Reply {}

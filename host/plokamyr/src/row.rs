@@ -135,14 +135,15 @@ impl Row {
     }
 }
 
-/// Reads a word as an instruction. Refusal: 1, also for SEL with S = 1.
+/// Reads a word as an instruction. Refusal: 1 or 13, the latter also for SEL with S = 1.
 ///
 /// ```
 /// use plokamyr::{decode, Form, Reply};
 ///
 /// let row = decode(0x2518_E403).unwrap();
 /// assert_eq!((row.form, row.fields[0]), (Form::Pfalse, 3));
-/// assert_eq!(decode(0), Err(Reply::UnknownWord));
+/// assert_eq!(decode(0), Err(Reply::ForeignWord));
+/// assert_eq!(decode(0x2510_4441), Err(Reply::UnsupportedForm)); // BRKA p1.b, p1/z, p2.b
 /// ```
 pub fn decode(word: u32) -> Result<Row, Reply> {
     let mut raw = [0; 9];

@@ -98,7 +98,7 @@ impl State {
     }
 
     /// Executes one instruction word where the state stands; nothing is copied.
-    /// Refusals, which leave the state as it was, the first that applies: 4, 1, 2, 3.
+    /// Refusals, which leave the state as it was, the first that applies: 4, 1 or 13, 2, 3.
     ///
     /// ```
     /// use plokamyr::{Reply, State};
@@ -123,7 +123,7 @@ impl State {
         ffi::step_lent(self, word)
     }
 
-    /// Executes words one after the other, until one is refused (1, 2 or 3). The state is then what the words done left.
+    /// Executes words one after the other, until one is refused (1 or 13, 2, 3). The state is then what the words done left.
     /// Refusal, which leaves the state as it was: 4, even if there are no words. The faster way for more than one word.
     ///
     /// ```
@@ -131,7 +131,7 @@ impl State {
     ///
     /// let mut state = State::new(128, 1);
     /// let ran = state.run(&[0x25A2_1C20, 0x2519_C401, 0]);
-    /// assert_eq!((ran.reply, ran.refused, ran.done), (Reply::Done, Reply::UnknownWord, 2));
+    /// assert_eq!((ran.reply, ran.refused, ran.done), (Reply::Done, Reply::ForeignWord, 2));
     /// ```
     pub fn run(&mut self, words: &[u32]) -> Ran {
         let ffi::Ran { reply, refused, done } = ffi::run(self, words);

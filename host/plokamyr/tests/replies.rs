@@ -1,10 +1,18 @@
-//! Each of the thirteen replies, through the wrapper, with what it leaves as it was.
+//! Each of the fourteen replies, through the wrapper, with what it leaves as it was.
 
 use plokamyr::{decode, encode, read, text, text_in, walk, write, Form, Predicate, Ran, Reply, Row, State};
 use std::collections::HashSet;
 use std::error::Error;
 
 const PFALSE: u32 = 0x2518_E400;
+const FOREIGN: [u32; 4] = [0, u32::MAX, 0xA518_E400, 0x24FF_FFFF]; // the third is PFALSE but for bit 31
+const UNSUPPORTED: [u32; 4] = [0x2510_4441, 0x2500_0000, 0x25FF_FFFF, 0x2518_E410]; // the first is BRKA p1.b, p1/z, p2.b
+
+/// All of these, with the reply of each.
+fn none_of_ours() -> impl Iterator<Item = (u32, Reply)> {
+    let foreign = FOREIGN.iter().map(|&word| (word, Reply::ForeignWord));
+    foreign.chain(UNSUPPORTED.iter().map(|&word| (word, Reply::UnsupportedForm)))
+}
 
 fn state() -> State {
     let mut state = State::new(128, 1);
@@ -42,7 +50,12 @@ fn expect_no_run(state: &State, words: &[u32], reply: Reply, refused: Reply) {
 
 #[test]
 fn steps() {
-    expect_refused(&state(), 0, Reply::UnknownWord);
+    for (word, reply) in none_of_ours() {
+        expect_refused(&state(), word, reply);
+        expect_refused(&changed(|state| state.level = 0), word, reply);
+        expect_refused(&changed(|state| state.access = false), word, reply);
+        expect_refused(&changed(|state| state.level = 4), word, Reply::IllegalState);
+    }
     expect_refused(&changed(|state| state.level = 0), PFALSE, Reply::LevelTooLow);
     expect_refused(&changed(|state| state.access = false), PFALSE, Reply::AccessOff);
     expect_refused(&changed(|state| state.vl = 384), PFALSE, Reply::IllegalState);
@@ -54,10 +67,12 @@ fn steps() {
 #[test]
 fn runs() {
     expect_no_run(&state(), &[], Reply::Done, Reply::Done);
-    expect_no_run(&state(), &[0, PFALSE], Reply::Done, Reply::UnknownWord);
+    for (word, reply) in none_of_ours() {
+        expect_no_run(&state(), &[word, PFALSE], Reply::Done, reply);
+    }
     expect_no_run(&changed(|state| state.level = 0), &[PFALSE], Reply::Done, Reply::LevelTooLow);
     expect_no_run(&changed(|state| state.access = false), &[PFALSE], Reply::Done, Reply::AccessOff);
-    for words in [&[][..], &[PFALSE], &[0]] {
+    for words in [&[][..], &[PFALSE], &[0], &[0x2500_0000]] {
         expect_no_run(&changed(|state| state.vl = 384), words, Reply::IllegalState, Reply::Done);
         expect_no_run(&changed(|state| state.level = 4), words, Reply::IllegalState, Reply::Done);
     }
@@ -65,13 +80,15 @@ fn runs() {
 
 #[test]
 fn a_refused_word_keeps_those_before_it() {
-    let words = [0x25A2_1C20, PFALSE + 5, 0, PFALSE];
-    let (mut ran, mut stepped, mut lent) = (state(), state(), state());
-    assert_eq!(parts(ran.run(&words)), (Reply::Done, Reply::UnknownWord, 2));
-    assert!(words[..2].iter().all(|&word| stepped.step(word) == Reply::Done));
-    assert!(words[..2].iter().all(|&word| lent.step_lent(word) == Reply::Done));
-    assert_eq!((ran.p[0], ran.p[5]), (Predicate::from(0x0111), Predicate::default()));
-    assert_eq!((&ran, &ran), (&stepped, &lent));
+    for (refused, reply) in none_of_ours() {
+        let words = [0x25A2_1C20, PFALSE + 5, refused, PFALSE];
+        let (mut ran, mut stepped, mut lent) = (state(), state(), state());
+        assert_eq!(parts(ran.run(&words)), (Reply::Done, reply, 2));
+        assert!(words[..2].iter().all(|&word| stepped.step(word) == Reply::Done));
+        assert!(words[..2].iter().all(|&word| lent.step_lent(word) == Reply::Done));
+        assert_eq!((ran.p[0], ran.p[5]), (Predicate::from(0x0111), Predicate::default()));
+        assert_eq!((&ran, &ran), (&stepped, &lent));
+    }
 }
 
 /// A walk that is refused leaves state and list.
@@ -142,16 +159,21 @@ fn writes() {
 
 #[test]
 fn texts() {
-    let mut image = [0; 400];
-    let length = write(&state(), &[0x25A2_1C20, 0x2519_C401, 0], &mut image).length;
-    let lines = b"0 25a21c20 0 1010\n1 2519c401 0 1010\n2 00000000 1 1010\nend 2\n";
-    assert_eq!(text(&image[..length]), lines);
-    assert_eq!(text_in(&image[..length], &mut []), 0);
+    for (word, reply) in none_of_ours() {
+        let mut image = [0; 400];
+        let length = write(&state(), &[0x25A2_1C20, 0x2519_C401, word], &mut image).length;
+        let number = reply.number();
+        let lines = format!("0 25a21c20 0 1010\n1 2519c401 0 1010\n2 {word:08x} {number} 1010\nend 2\n");
+        assert_eq!(text(&image[..length]), lines.as_bytes());
+        assert_eq!(text_in(&image[..length], &mut []), 0);
+    }
 }
 
 #[test]
 fn words() {
-    assert_eq!(decode(0), Err(Reply::UnknownWord));
+    for (word, reply) in none_of_ours() {
+        assert_eq!(decode(word), Err(reply));
+    }
     let row = Row::new(Form::WhileOne, &[2, 2, 1, 1, 1, 1, 0, 0]).unwrap();
     assert_eq!(decode(0x25A2_1C20), Ok(row));
     assert_eq!(encode(row), Ok(0x25A2_1C20));
@@ -167,9 +189,10 @@ fn sel_with_s() {
     let (sel, sel_with_s) = (0x2503_4650, 0x2543_4650); // p0.b, p1, p2.b, p3.b
     let row = |s| Row::new(Form::Logic, &[0, s, 3, 1, 1, 2, 1, 0]).unwrap();
     assert_eq!((decode(sel), encode(row(0))), (Ok(row(0)), Ok(sel)));
-    assert_eq!((decode(sel_with_s), encode(row(1))), (Err(Reply::UnknownWord), Err(Reply::FieldPastRange)));
-    expect_refused(&state(), sel_with_s, Reply::UnknownWord);
-    expect_no_run(&state(), &[sel_with_s, sel], Reply::Done, Reply::UnknownWord);
+    assert_eq!((decode(sel_with_s), encode(row(1))), (Err(Reply::UnsupportedForm), Err(Reply::FieldPastRange)));
+    expect_refused(&state(), sel_with_s, Reply::UnsupportedForm);
+    expect_refused(&changed(|state| state.level = 0), sel_with_s, Reply::UnsupportedForm);
+    expect_no_run(&state(), &[sel_with_s, sel], Reply::Done, Reply::UnsupportedForm);
     assert_eq!(state().step(sel), Reply::Done);
 }
 
@@ -185,7 +208,7 @@ fn a_form_without_a_name() {
 
 #[test]
 fn a_reply_without_a_name() {
-    for number in [13, 17, 256, u32::MAX] {
+    for number in [14, 17, 256, u32::MAX] {
         let reply = Reply::from_number(number);
         assert_eq!((reply, reply.number()), (Reply::Other(number), number));
         assert_eq!(reply.to_string(), format!("reply without a name here (reply {number})"));
@@ -211,8 +234,8 @@ fn next_word(word: u32) -> Result<u32, Box<dyn Error>> {
 #[test]
 fn a_refusal_is_an_error() {
     assert_eq!(next_word(PFALSE).unwrap(), PFALSE + 1);
-    let unknown = next_word(0).unwrap_err();
-    assert_eq!(unknown.to_string(), "word is no instruction of ours (reply 1)");
+    let foreign = next_word(0).unwrap_err();
+    assert_eq!(foreign.to_string(), "word is foreign: its bits 31:24 are not 00100101 (reply 1)");
     let past = next_word(PFALSE + 15).unwrap_err();
     assert_eq!(past.downcast_ref(), Some(&Reply::FieldPastRange));
 }

@@ -15,15 +15,31 @@ const IMAGES: u64 = 150;
 const WALKS: u64 = 150;
 const LARGEST: usize = 700_000;
 
-const LEFT_OUT: &str = "runs stopped by SEL with S";
-
 const RUN: u8 = 1;
 const IMAGE: u8 = 2;
 const WALK: u8 = 3;
 
-/// Searches are runs too, drawn apart from the others.
+/// Searches are runs too, drawn apart from the others, and so are runs that come to a word that is none of ours.
 const SEARCH: u64 = 4;
 const SIZES: [u8; 4] = [0, 1, 2, 3];
+const REFUSED: u64 = 5;
+
+type Draw = fn(&mut Random) -> u32;
+
+/// Words that are none of ours.
+const NOT_OURS: [(&str, Draw); 3] = [
+    ("a foreign word", instructions::foreign),
+    ("an unsupported form", instructions::unsupported),
+    ("SEL with S", instructions::left_out),
+];
+
+/// Where one stands, with the level and the access of the state.
+const PLACES: [(&str, u8, bool); 4] = [
+    ("after words done", 3, true),
+    ("at level 0", 0, true),
+    ("without access", 3, false),
+    ("at level 0 without access", 0, false),
+];
 
 /// The shorter lengths more often, for the size of the file.
 const LENGTHS: [u64; 20] =
@@ -47,6 +63,9 @@ fn main() {
         for size in SIZES {
             search(&mut file, &mut Random::new(seed, SEARCH, vl << 2 | u64::from(size)), vl, size);
         }
+    }
+    for number in 0..(NOT_OURS.len() * PLACES.len()) as u64 {
+        refused(&mut file, &mut Random::new(seed, REFUSED, number), number as usize);
     }
     file.say_and_check();
     std::io::stdout().write_all(&file.bytes).expect("standard output takes the file");
@@ -90,8 +109,10 @@ fn expected() -> Vec<String> {
         list.extend(states::LENGTHS.map(|vl| executed(form, vl)));
     }
     list.extend([0, 1, 2, 3].map(|level| format!("runs at level {level}")));
-    list.extend([0, 1, 2, 3].map(stopped_by));
-    list.push(LEFT_OUT.to_string());
+    list.extend([0, 1, 2, 3, 13].map(stopped_by));
+    for (what, _) in NOT_OURS {
+        list.extend(PLACES.map(|(place, ..)| stopped_at(what, place)));
+    }
     list.extend(states::LENGTHS.map(counter_with_junk));
     for size in SIZES {
         list.extend(states::LENGTHS.map(|vl| searched(size, vl, true)));
@@ -119,6 +140,11 @@ fn searched(size: u8, vl: u64, found: bool) -> String {
 /// An image holds no illegal state, so that the run's own reply is always 0.
 fn stopped_by(refused: u8) -> String {
     format!("runs stopped by {refused}")
+}
+
+/// By which word that is none of ours, and where it stands.
+fn stopped_at(what: &str, place: &str) -> String {
+    format!("runs stopped by {what} {place}")
 }
 
 fn reply_of(kind: u8, reply: u8) -> String {
@@ -154,8 +180,8 @@ fn store_run(file: &mut File, mut state: State, words: &[u32]) {
     file.record(RUN, &rest);
     file.executed += ran.done as u64;
     file.see(stopped_by(ran.refused));
-    if words.get(ran.done).is_some_and(|&word| instructions::is_left_out_word(word)) {
-        file.see(LEFT_OUT.to_string());
+    if let Some(&word) = words.get(ran.done).filter(|&&word| model::decode(word).is_none()) {
+        see_refused(file, &state, word, ran.done);
     }
     file.see(format!("runs at level {}", state.level));
     for &word in &words[..ran.done] {
@@ -163,6 +189,23 @@ fn store_run(file: &mut File, mut state: State, words: &[u32]) {
         let _ = model::step(&mut state, word);
         see_word(file, &before, &state, word);
     }
+}
+
+/// A word that is none of ours, after so many that were done.
+fn see_refused(file: &mut File, state: &State, word: u32, done: usize) {
+    let what = match word {
+        _ if instructions::is_foreign(word) => "a foreign word",
+        _ if instructions::is_left_out_word(word) => "SEL with S",
+        _ => "an unsupported form",
+    };
+    let place = match (state.level, state.access) {
+        _ if done > 0 => "after words done",
+        (0, true) => "at level 0",
+        (0, false) => "at level 0 without access",
+        (_, false) => "without access",
+        (_, true) => "at once",
+    };
+    file.see(stopped_at(what, place));
 }
 
 /// What a word does that is executed on this state.
@@ -211,6 +254,22 @@ fn sparse(random: &mut Random, vl: u64, size: u8) -> [Vec<u64>; 3] {
     let each_word = (0..elements / in_word).map(|word| word * in_word + random.below(in_word)).collect();
     let few = (0..3).map(|_| random.below(elements)).collect();
     [each_word, vec![elements - 1], few]
+}
+
+/// A run that comes to a word that is none of ours, with another after it, and before it some that are done if the state
+/// allows any.
+fn refused(file: &mut File, random: &mut Random, number: usize) {
+    let vl = random.pick(&LENGTHS);
+    let mut state = states::legal(random, vl);
+    let (_, draw) = NOT_OURS[number % NOT_OURS.len()];
+    let (_, level, access) = PLACES[number / NOT_OURS.len()];
+    (state.level, state.access) = (level, access);
+    let mut words = Vec::new();
+    if level > 0 && access {
+        words.extend([(); 3].map(|()| instructions::accepted(random)));
+    }
+    words.extend([draw(random), instructions::accepted(random)]);
+    store_run(file, state, &words);
 }
 
 /// The forms in turn, with now and then a word that may be none; below level 3 seldom one that asks for it.
