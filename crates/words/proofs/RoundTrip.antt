@@ -40,7 +40,7 @@ outcome-more f fs w false h (inl (n, l, m, p)) = inl (suc n, omega arith, m, sym
 outcome-more f fs w false h (inr p) = inr (sym (skip f fs w (sym (tested f w)) h (sym p)))
 
 pub outcome : (fs : List Form) (w : ℕ) → Outcome fs w
-outcome [] w = inr (sym (none w refl))
+outcome [] w = inr (sym (none w))
 outcome (f ∷ fs) w = outcome-more f fs w (reads f w) refl (outcome fs w)
 
 abbrev rangeOf : List ℕ → Bool

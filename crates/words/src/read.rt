@@ -9,7 +9,7 @@ use scalars::Condition;
 ghost use mathlib.Core.Path.{_≡_};
 ghost use lib.ListN.{drop};
 ghost use Rattle.words.specs.Layout.{slice};
-ghost use Rattle.words.specs.Words.{whileOneForm, whilePairForm, whileCounterForm, saturatingForm, incDecForm, cntpForm, cntpCounterForm, pnextForm, pfirstForm, ptestForm, pfalseForm, logicForm, conditionOf, sizeOf, operationBits, operationOf, flag, forms, instructionIn, refusal as refusalOf, readBy, decodeOf};
+ghost use Rattle.words.specs.Words.{whileOneForm, whilePairForm, whileCounterForm, saturatingForm, incDecForm, cntpForm, cntpCounterForm, pnextForm, pfirstForm, ptestForm, pfalseForm, logicForm, conditionOf, sizeOf, operationBits, operationOf, flag, forms, instructionIn, hasOpcode, readBy, decodeOf};
 ghost use Rattle.words.specs.Inside.{tests};
 
 // Size 00 to 11; a larger number is taken for 11.
@@ -301,14 +301,11 @@ fn read_logic(w: u32) -> Instruction
     }
 }
 
-// The reply to a word that is none of ours.
-fn refusal(w: u32) -> Reply
-    ensures { λ r. ⌜ r ≡ refusalOf w ⌝ }
+// Whether bits 31:24 are those of all our words.
+fn has_opcode(w: u32) -> bool
+    ensures { λ r. ⌜ r ≡ hasOpcode w ⌝ }
 {
-    if (w >> 24) % 256 == 0b00100101 {
-        return Reply::UnsupportedForm;
-    }
-    Reply::ForeignWord
+    (w >> 24) % 256 == 0b00100101
 }
 
 // The forms that count.
@@ -349,7 +346,11 @@ fn decode_predicate(w: u32) -> Decoded
     if is_logic(w) {
         return Decoded::Ours(read_logic(w));
     }
-    Decoded::Refused(refusal(w))
+    // A reply that is computed, and not one to each return, would slow the reading of every word.
+    if has_opcode(w) {
+        return Decoded::Refused(Reply::UnsupportedForm);
+    }
+    Decoded::Refused(Reply::ForeignWord)
 }
 
 // The instruction that a word is.
