@@ -16,7 +16,7 @@ use Rattle.words.specs.declared.Decoded.the-variants as Dec
 use Rattle.words.proofs.Table.{reads-matches, has-opcode, one-layout}
 use Rattle.words.proofs.RoundTrip.{Outcome, outcome, refused-read}
 
--- a word that is refused gets the one refusal
+-- a word that is refused gets the reply that `refusal` has for it
 refused-reply : (w : ℕ) (r : Reply) → decodeOf w ≡ Dec.Refused r → r ≡ refusal w
 refused-reply w r e = go (outcome forms w)
   where
@@ -29,11 +29,11 @@ refused-reply w r e = go (outcome forms w)
         let q : Dec.Refused r ≡ Dec.Refused (refusal w) = sym e ∙ p in
         cc
 
--- bits 31:24 decide which it is
+-- which is 1 or 13 by bits 31:24
 refusal-is : (w : ℕ) (b : Bool) → hasOpcode w ≡ b → refusal w ≡ pick b UnsupportedForm ForeignWord
 refusal-is w b h = ap (λ (t : Bool). pick t UnsupportedForm ForeignWord) h
 
--- they are not two names of one reply
+-- 1 and 13 are two replies
 foreign≢unsupported : ForeignWord ≡ UnsupportedForm → ⊥
 foreign≢unsupported e = omega (arith, ap numberOf e)
 
@@ -49,12 +49,12 @@ foreign-read w = (there (hasOpcode w) refl, back (outcome forms w))
     back (inl (n, l, m, p)) h = absurd (false≢true (sym h ∙ has-opcode n w (reads-matches (formAt n) w m)))
     back (inr p) h = p ∙ ap Dec.Refused (refusal-is w false h)
 
--- 13 has them
+-- a word that gets 13 has these bits
 opcode-of-unsupported : (w : ℕ) (b : Bool) → hasOpcode w ≡ b → decodeOf w ≡ Dec.Refused UnsupportedForm → hasOpcode w ≡ true
 opcode-of-unsupported w true h e = h
 opcode-of-unsupported w false h e = absurd (foreign≢unsupported (sym (refused-reply w UnsupportedForm e ∙ refusal-is w false h)))
 
--- 13 exactly when they are, and no instruction whose fields are within their ranges has that word
+-- 13 exactly when bits 31:24 are 00100101, and no instruction whose fields are within their ranges has that word
 pub unsupported-form-read : (w : ℕ) → w < 2 ^ 32
     → (decodeOf w ≡ Dec.Refused UnsupportedForm) ↔ ((hasOpcode w ≡ true) × ((i : Instruction) → inRange i ≡ true → wordOf i ≡ w → ⊥))
 unsupported-form-read w h = (there, back)
@@ -65,7 +65,7 @@ unsupported-form-read w h = (there, back)
     back : (hasOpcode w ≡ true) × ((i : Instruction) → inRange i ≡ true → wordOf i ≡ w → ⊥) → decodeOf w ≡ Dec.Refused UnsupportedForm
     back (o, k) = refused-read w h .1 k ∙ ap Dec.Refused (refusal-is w true o)
 
--- so it is for a word that has them, and is read as no instruction
+-- a word with these bits that is read as no instruction gets 13
 pub unread : (w : ℕ) → hasOpcode w ≡ true → ((i : Instruction) → decodeOf w ≡ Dec.Ours i → ⊥) → decodeOf w ≡ Dec.Refused UnsupportedForm
 unread w o k = go (outcome forms w)
   where
@@ -73,7 +73,7 @@ unread w o k = go (outcome forms w)
     go (inl (n, l, m, p)) = absurd (k (instructionIn (formAt n) w) p)
     go (inr p) = p ∙ ap Dec.Refused (refusal-is w true o)
 
--- and for one with a form's fixed bits, and with fields that the form leaves out
+-- so does one with a form's fixed bits, and with fields that the form leaves out
 pub left-out-read : (n w : ℕ) → n < length forms → matches (formAt n .layout) w ≡ true → from (formAt n .allowed) (cut (formAt n .layout) w) ≡ false
     → decodeOf w ≡ Dec.Refused UnsupportedForm
 left-out-read n w l h a = go (outcome forms w)

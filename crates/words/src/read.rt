@@ -346,7 +346,7 @@ fn decode_predicate(w: u32) -> Decoded
     if is_logic(w) {
         return Decoded::Ours(read_logic(w));
     }
-    // A reply that is computed, and not one to each return, would slow the reading of every word.
+    // Two returns: one, with a reply that is computed before it, would slow the reading of every word.
     if has_opcode(w) {
         return Decoded::Refused(Reply::UnsupportedForm);
     }

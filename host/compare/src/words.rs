@@ -94,7 +94,7 @@ impl Kind for Words {
     }
 }
 
-/// A word with another highest byte.
+/// The word with this highest byte.
 fn under(highest: u32, word: u32) -> u32 {
     highest << 24 | word & 0x00FF_FFFF
 }
