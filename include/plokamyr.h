@@ -3,7 +3,7 @@
  *
  * Every call is answered: nothing is left to the caller to check but what C cannot say. What the caller owes:
  *   - a pointer with a count is valid for that many elements (null will do where the count is 0), and aligned as its type;
- *   - `state`, `flags`, `x`, `p`, `row` and `word` are valid pointers, never null;
+ *   - `state`, `flags`, `x`, `p`, `row` and `word` are valid pointers, never null; behind `p` stand seventeen predicates;
  *   - what is lent to one call does not overlap;
  *   - a bool is 0 or 1;
  *   - there are 32 KB of stack.
@@ -28,7 +28,7 @@ enum plokamyr_reply {
     PLOKAMYR_FOREIGN_WORD = 1,        /* bits 31:24 of the word are not 00100101 */
     PLOKAMYR_LEVEL_TOO_LOW = 2,       /* the state's level is below the form's */
     PLOKAMYR_ACCESS_OFF = 3,
-    PLOKAMYR_ILLEGAL_STATE = 4,       /* vl is none of the five, level above 3, or a predicate bit at or above vl / 8 */
+    PLOKAMYR_ILLEGAL_STATE = 4,       /* vl is none of the five, level above 3, or a bit of a predicate or of FFR at or above vl / 8 */
     PLOKAMYR_IMAGE_CUT = 5,           /* the image ends before a section does */
     PLOKAMYR_NOT_ALLOWED = 6,         /* a count or a byte of an image that is not allowed */
     PLOKAMYR_TRAILING_BYTES = 7,      /* bytes after the last section */
@@ -37,7 +37,8 @@ enum plokamyr_reply {
     PLOKAMYR_BAD_WALK_REGISTERS = 10, /* X past 31, P past 15, size past 3, n = 31, n = m, or d = k */
     PLOKAMYR_LIST_TOO_SHORT = 11,     /* fewer places than positions to visit */
     PLOKAMYR_BUDGET_SPENT = 12,       /* the walk has not ended */
-    PLOKAMYR_UNSUPPORTED_FORM = 13    /* bits 31:24 of the word are 00100101, but its form is none of ours; also for SEL with S = 1 */
+    PLOKAMYR_UNSUPPORTED_FORM = 13,   /* bits 31:24 of the word are 00100101, but its form is none of ours; also for SEL with S = 1 */
+    PLOKAMYR_NOT_MONOTONIC = 14       /* WRFFR's Pn is not a run of ones from bit 0 */
 };
 
 /* A predicate: bit b is bit b % 64 of words[b / 64]. */
@@ -59,17 +60,24 @@ struct plokamyr_state {
     struct plokamyr_flags flags;
     uint64_t x[31];
     struct plokamyr_predicate p[16];
+    struct plokamyr_predicate ffr; /* the first-fault register, right after p: see plokamyr_predicates */
 };
 
 /* ---- steps ---- */
 
-/* Executes one instruction word on a state whose parts stand anywhere. Nothing is copied. Refusals, the first that applies: 4, 1 or 13, 2, 3. */
+/* Executes one instruction word on a state whose parts stand anywhere: p holds P0 to P15 and then FFR. Nothing is copied.
+ * Refusals, the first that applies: 4, 1 or 13, 2, 3, 14 (WRFFR alone). */
 enum plokamyr_reply plokamyr_step_parts(uint64_t vl, uint8_t level, bool access, struct plokamyr_flags *flags, uint64_t x[31],
-                                        struct plokamyr_predicate p[16], uint32_t word);
+                                        struct plokamyr_predicate p[17], uint32_t word);
 
-/* The same on a state where it stands. */
+/* The seventeen predicates of a state: its p and then its ffr. The pointer comes from that to the state, since one to p ends with p. */
+static inline struct plokamyr_predicate *plokamyr_predicates(struct plokamyr_state *state) {
+    return (struct plokamyr_predicate *)(void *)((char *)state + offsetof(struct plokamyr_state, p));
+}
+
+/* The same as plokamyr_step_parts on a state where it stands. */
 static inline enum plokamyr_reply plokamyr_step(struct plokamyr_state *state, uint32_t word) {
-    return plokamyr_step_parts(state->vl, state->level, state->access, &state->flags, state->x, state->p, word);
+    return plokamyr_step_parts(state->vl, state->level, state->access, &state->flags, state->x, plokamyr_predicates(state), word);
 }
 
 /* The same by way of a step that hands the state in and back: slower, since it copies the state. */
@@ -82,14 +90,14 @@ struct plokamyr_ran {
     size_t done;
 };
 
-/* Executes words one after the other, until one is refused (1 or 13, 2, 3), on a state whose parts stand anywhere: they hold what the words done left.
- * Refusal: 4, even if there are no words. The faster way for more than one word. */
+/* Executes words one after the other, until one is refused (1 or 13, 2, 3, 14), on a state whose parts stand anywhere, as for a step: they hold what
+ * the words done left. Refusal: 4, even if there are no words. The faster way for more than one word. */
 struct plokamyr_ran plokamyr_run_parts(uint64_t vl, uint8_t level, bool access, struct plokamyr_flags *flags, uint64_t x[31],
-                                       struct plokamyr_predicate p[16], const uint32_t *words, size_t count);
+                                       struct plokamyr_predicate p[17], const uint32_t *words, size_t count);
 
 /* The same on a state where it stands. */
 static inline struct plokamyr_ran plokamyr_run(struct plokamyr_state *state, const uint32_t *words, size_t count) {
-    return plokamyr_run_parts(state->vl, state->level, state->access, &state->flags, state->x, state->p, words, count);
+    return plokamyr_run_parts(state->vl, state->level, state->access, &state->flags, state->x, plokamyr_predicates(state), words, count);
 }
 
 /* ---- the walk ---- */
@@ -114,7 +122,7 @@ struct plokamyr_walked plokamyr_walk(struct plokamyr_state state, uint32_t size,
 
 /* The most words that an image has, its most bytes, and room for the text of any image. */
 #define PLOKAMYR_WORDS_MAX 4096
-#define PLOKAMYR_IMAGE_MAX 17171
+#define PLOKAMYR_IMAGE_MAX 17207
 #define PLOKAMYR_TEXT_MAX 86026
 
 /* count words stand in the lent list. For a refusal: 0, and a state of vl 128 with all else zero. */
@@ -124,7 +132,8 @@ struct plokamyr_reading {
     struct plokamyr_state state;
 };
 
-/* Reads an image, and puts its words at the front of words; other places stay. Refusals: 5 and 6 by the first section at fault, then 7, then 8. */
+/* Reads an image, and puts its words at the front of words; other places stay. An image of the older kind, without FFR, gives one that is all false.
+ * Refusals: 5 and 6 by the first section at fault, then 7, then 8. */
 struct plokamyr_reading plokamyr_read(const uint8_t *image, size_t length, uint32_t *words, size_t places);
 
 /* length bytes were written; for a refusal 0. */
@@ -133,7 +142,8 @@ struct plokamyr_written {
     size_t length;
 };
 
-/* Writes the image of a state and words at the front of image; other bytes stay. Refusals: 4, then 6 (more than 4,096 words), then 8. */
+/* Writes the image of a state, with its FFR, and of words at the front of image; other bytes stay.
+ * Refusals: 4, then 6 (more than 4,096 words), then 8. */
 struct plokamyr_written plokamyr_write(struct plokamyr_state state, const uint32_t *words, size_t count, uint8_t *image, size_t room);
 
 /* Writes what the program prints for an image: a line for each word stepped and `end`, or `image` and the reply alone. Answers how many bytes were written.
@@ -147,6 +157,7 @@ size_t plokamyr_text(const uint8_t *image, size_t length, uint8_t *text, size_t 
  * The counters and the pair ask level 3, WHILE_ONE asks 1 if lt is 1 and else 2, all others ask 1.
  * LOGIC is, by op, o2, o3: 000 AND, 001 BIC, 010 EOR, 011 SEL, 100 ORR, 101 ORN, 110 NOR, 111 NAND. With S = 1 it sets the flags,
  * which SEL cannot: SEL with S = 1 is no instruction.
+ * RDFFR_PG and RDFFRS_PG write FFR and Pg, bit by bit; RDFFRS_PG sets the flags besides.
  * Later versions may add forms: keep a default. */
 enum plokamyr_form {
     PLOKAMYR_WHILE_ONE = 0,     /* size, Rm, sf, U, lt, Rn, eq, Pd */
@@ -160,7 +171,12 @@ enum plokamyr_form {
     PLOKAMYR_PFIRST = 8,        /* Pg, Pdn */
     PLOKAMYR_PTEST = 9,         /* Pg, Pn */
     PLOKAMYR_PFALSE = 10,       /* Pd */
-    PLOKAMYR_LOGIC = 11         /* AND, BIC, EOR, SEL, ORR, ORN, NOR, NAND: op, S, Pm, Pg, o2, Pn, o3, Pd */
+    PLOKAMYR_LOGIC = 11,        /* AND, BIC, EOR, SEL, ORR, ORN, NOR, NAND: op, S, Pm, Pg, o2, Pn, o3, Pd */
+    PLOKAMYR_SETFFR = 12,       /* no fields: all bits of FFR become true */
+    PLOKAMYR_WRFFR = 13,        /* Pn */
+    PLOKAMYR_RDFFR = 14,        /* Pd */
+    PLOKAMYR_RDFFR_PG = 15,     /* Pg, Pd */
+    PLOKAMYR_RDFFRS_PG = 16     /* Pg, Pd */
 };
 
 #define PLOKAMYR_ROW 9
@@ -172,11 +188,15 @@ enum plokamyr_reply plokamyr_decode(uint32_t word, uint8_t row[PLOKAMYR_ROW]);
  * or SEL with S = 1. */
 enum plokamyr_reply plokamyr_encode(const uint8_t row[PLOKAMYR_ROW], uint32_t *word);
 
-/* The library is compiled for these sizes. */
+/* The library is compiled for these sizes, and for an FFR that is the seventeenth predicate. */
 #if defined(__cplusplus)
-static_assert(sizeof(enum plokamyr_reply) == 4 && sizeof(struct plokamyr_state) == 776, "not the library's layout");
+static_assert(sizeof(enum plokamyr_reply) == 4 && sizeof(struct plokamyr_state) == 808, "not the library's layout");
+static_assert(offsetof(struct plokamyr_state, ffr) == offsetof(struct plokamyr_state, p) + 16 * sizeof(struct plokamyr_predicate),
+              "ffr does not lie right after p");
 #elif defined(__STDC_VERSION__) && __STDC_VERSION__ >= 201112L
-_Static_assert(sizeof(enum plokamyr_reply) == 4 && sizeof(struct plokamyr_state) == 776, "not the library's layout");
+_Static_assert(sizeof(enum plokamyr_reply) == 4 && sizeof(struct plokamyr_state) == 808, "not the library's layout");
+_Static_assert(offsetof(struct plokamyr_state, ffr) == offsetof(struct plokamyr_state, p) + 16 * sizeof(struct plokamyr_predicate),
+               "ffr does not lie right after p");
 #endif
 
 #ifdef __cplusplus

@@ -8,8 +8,8 @@ use std::process::{exit, Command};
 /// Where `rt staticlib` puts archives.
 const ARCHIVES: &str = concat!(env!("CARGO_MANIFEST_DIR"), "/../../target/staticlib");
 
-/// What is timed of a copy.
-const CALLS: [&str; 2] = ["plokamyr_run_parts", "plokamyr_walk"];
+/// What is timed of a copy, and `plokamyr_read`, which tells how its states are laid out.
+const CALLS: [&str; 3] = ["plokamyr_run_parts", "plokamyr_walk", "plokamyr_read"];
 
 fn main() {
     println!("cargo::rustc-check-cfg=cfg(before)");

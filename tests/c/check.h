@@ -56,6 +56,7 @@ static inline struct plokamyr_state sample(uint64_t vl) {
     for (uint64_t i = 0; i < 16; i++) {
         for (uint64_t k = 0; k < 4; k++) state.p[i].words[k] = mixed(100 + 4 * i + k) & live(vl, k);
     }
+    for (uint64_t k = 0; k < 4; k++) state.ffr.words[k] = mixed(200 + k) & live(vl, k);
     return state;
 }
 
@@ -64,7 +65,7 @@ static inline bool same_state(const struct plokamyr_state *a, const struct ploka
     bool settings = a->vl == b->vl && a->level == b->level && a->access == b->access;
     bool flags = a->flags.n == b->flags.n && a->flags.z == b->flags.z && a->flags.c == b->flags.c && a->flags.v == b->flags.v;
     bool registers = memcmp(a->x, b->x, sizeof a->x) == 0 && memcmp(a->p, b->p, sizeof a->p) == 0;
-    return settings && flags && registers;
+    return settings && flags && registers && memcmp(&a->ffr, &b->ffr, sizeof a->ffr) == 0;
 }
 
 /* A variable, declared as `value`, with guards on both sides. */

@@ -1,5 +1,5 @@
 /* Every refusal that each function can give, in its order, and that it leaves all as it was; nulls, empty lists, numbers past their range;
- * counters with bits past their count; PNEXT past words without an active element. */
+ * counters with bits past their count; PNEXT past words without an active element; FFR written and read; images of the older kind. */
 #include "check.h"
 
 enum {
@@ -10,7 +10,12 @@ enum {
     PNEXT = 0x2519C443,         /* p3.b, p2, p3.b: level 1 */
     AND = 0x25044861,           /* p1.b, p2/z, p3.b, p4.b: level 1 */
     SEL = 0x25034650,           /* p0.b, p1, p2.b, p3.b: level 1 */
-    SETS_FLAGS = 0x00400000     /* S of a word of predicate logic; SEL has no form with it */
+    SETS_FLAGS = 0x00400000,    /* S of a word of predicate logic; SEL has no form with it */
+    SETFFR = 0x252C9000,        /* level 1, as the four below */
+    WRFFR = 0x25289000,         /* p0.b */
+    RDFFR = 0x2519F000,         /* p0.b */
+    RDFFR_PG = 0x2518F000,      /* p0.b, p0/z */
+    RDFFRS_PG = 0x2558F000      /* p0.b, p0/z */
 };
 
 /* Another highest byte than ours. The last eight are PFALSE but for one bit of it. */
@@ -24,7 +29,7 @@ static const uint32_t unsupported[UNSUPPORTED] = {0x25000000, 0x25FFFFFF, 0x2518
 
 /* ---- illegal states */
 
-enum { ILLEGAL = 28 };
+enum { ILLEGAL = 36 };
 
 static struct plokamyr_state with_length(uint64_t vl) {
     struct plokamyr_state s = sample(128);
@@ -45,13 +50,21 @@ static struct plokamyr_state with_bit(uint64_t vl, int p, uint64_t bit) {
     return s;
 }
 
+/* The same for a bit of FFR. */
+static struct plokamyr_state with_ffr_bit(uint64_t vl, uint64_t bit) {
+    struct plokamyr_state s = sample(vl);
+    s.ffr.words[bit / 64] |= UINT64_C(1) << (bit % 64);
+    return s;
+}
+
 static struct plokamyr_state illegal(int number) {
     static const uint64_t bad[14] = {0, 1, 16, 127, 129, 192, 384, 640, 1920, 2049, 4096, 0x100000080, UINT64_C(1) << 63, UINT64_MAX};
     if (number < 14) return with_length(bad[number]);
     static const uint8_t levels[6] = {4, 5, 8, 128, 254, 255};
     if (number < 20) return with_level(levels[number - 14]);
     uint64_t vl = lengths[(number - 20) % 4];
-    return number < 24 ? with_bit(vl, number - 20, vl / 8) : with_bit(vl, number - 12, 255);
+    if (number < 28) return number < 24 ? with_bit(vl, number - 20, vl / 8) : with_bit(vl, number - 12, 255);
+    return with_ffr_bit(vl, number < 32 ? vl / 8 : 255);
 }
 
 /* ---- step */
@@ -92,25 +105,28 @@ static void step_refusals(void) {
         for (uint8_t asked = 1; asked < 4; asked++) {
             expect_step(&s, words[asked], level < asked ? PLOKAMYR_LEVEL_TOO_LOW : PLOKAMYR_ACCESS_OFF);
         }
-        expect_step(&s, AND, level < 1 ? PLOKAMYR_LEVEL_TOO_LOW : PLOKAMYR_ACCESS_OFF);
+        static const uint32_t others[6] = {AND, SETFFR, WRFFR, RDFFR, RDFFR_PG, RDFFRS_PG};
+        for (int i = 0; i < 6; i++) expect_step(&s, others[i], level < 1 ? PLOKAMYR_LEVEL_TOO_LOW : PLOKAMYR_ACCESS_OFF);
     }
 }
 
-/* Words of every form, one after the other from states of every length. The last four are predicate logic: without flags,
- * and with them all but SEL, in three parts. */
+/* Words of every form, one after the other from states of every length. The four after PFALSE are predicate logic: without flags,
+ * and with them all but SEL, in three parts. Each WRFFR takes what the WHILE of bytes before it leaves, in p9. */
 static void steps_agree(void) {
-    enum { KINDS = 17 };
+    enum { KINDS = 23 };
     static const uint32_t fixed[KINDS] = {0x25200000, 0x25205010, 0x25204010, 0x25288800, 0x25288C00, 0x252C8800,
                                           0x252D8800, 0x25208000, 0x25208200, 0x2519C400, 0x2558C000, 0x2550C000,
-                                          0x2518E400, 0x25004000, 0x25C04000, 0x25404000, 0x25404200};
+                                          0x2518E400, 0x25004000, 0x25C04000, 0x25404000, 0x25404200, SETFFR,
+                                          0x25200409, WRFFR | 9 << 5, RDFFR, RDFFR_PG, RDFFRS_PG};
     static const uint32_t drawn[KINDS] = {0x00DF1FFF, 0x00DF0FEF, 0x00DF2FEF, 0x00C301FF, 0x00C301FF, 0x00C001FF,
                                           0x00C001FF, 0x00C03DFF, 0x00C005FF, 0x00C001EF, 0x000001EF, 0x00003DE0,
-                                          0x0000000F, 0x008F3FFF, 0x000F3FFF, 0x000F3DFF, 0x000F3DEF};
+                                          0x0000000F, 0x008F3FFF, 0x000F3FFF, 0x000F3DFF, 0x000F3DEF, 0,
+                                          0x001F1BF0, 0,          0x0000000F, 0x000001EF, 0x000001EF};
     for (int i = 0; i < 5; i++) {
         struct plokamyr_state s = sample(lengths[i]);
         for (uint64_t at = 0; at < KINDS * 40; at++) {
             s.x[at % 31] = mixed(at) % 300; /* small, so that a WHILE may end within the vector */
-            s.p[at % 16].words[0] |= mixed(at + 1) & live(lengths[i], 0); /* PFALSE must not leave all empty */
+            if (at % KINDS != 19) s.p[at % 16].words[0] |= mixed(at + 1) & live(lengths[i], 0); /* PFALSE must not leave all empty */
             s = both_steps(&s, fixed[at % KINDS] | ((uint32_t)mixed(at + 2) & drawn[at % KINDS]), PLOKAMYR_DONE);
         }
     }
@@ -181,6 +197,83 @@ static void searches(void) {
     for (int i = 0; i < SEARCHES; i++) expect_next(known[i]);
 }
 
+/* ---- the first-fault register */
+
+/* The bits from the first up to the end, which is not among them. */
+static struct plokamyr_predicate ones(uint64_t first, uint64_t end) {
+    struct plokamyr_predicate p = {{0}};
+    for (uint64_t bit = first; bit < end; bit++) p.words[bit / 64] |= UINT64_C(1) << (bit % 64);
+    return p;
+}
+
+/* WRFFR of p3, from an FFR that is no run of ones itself. */
+static void expect_write_ffr(uint64_t vl, struct plokamyr_predicate p, bool run) {
+    struct plokamyr_state s = sample(vl);
+    s.p[3] = p;
+    if (!run) {
+        expect_step(&s, WRFFR | 3 << 5, PLOKAMYR_NOT_MONOTONIC);
+        return;
+    }
+    struct plokamyr_state after = both_steps(&s, WRFFR | 3 << 5, PLOKAMYR_DONE);
+    s.ffr = p;
+    CHECK(same_state(&after, &s));
+}
+
+/* Each run of ones from bit 0, and each with one bit changed: a run again only at its own end. */
+static void ffr_written(uint64_t vl) {
+    for (uint64_t end = 0; end <= vl / 8; end++) {
+        expect_write_ffr(vl, ones(0, end), true);
+        for (uint64_t bit = 0; bit < vl / 8; bit++) {
+            struct plokamyr_predicate p = ones(0, end);
+            p.words[bit / 64] ^= UINT64_C(1) << (bit % 64);
+            expect_write_ffr(vl, p, bit == end || bit + 1 == end);
+        }
+    }
+}
+
+/* A word over FFR and, as its mask, p4: what it leaves in p5, and the flags. */
+static void expect_read_ffr(struct plokamyr_state s, uint32_t word, struct plokamyr_predicate result, struct plokamyr_flags flags) {
+    struct plokamyr_state after = both_steps(&s, word | 5, PLOKAMYR_DONE);
+    s.p[5] = result;
+    s.flags = flags;
+    CHECK(same_state(&after, &s));
+}
+
+static void ffr_read(uint64_t vl) {
+    struct plokamyr_state s = sample(vl);
+    struct plokamyr_predicate both;
+    for (int k = 0; k < 4; k++) both.words[k] = s.p[4].words[k] & s.ffr.words[k];
+    expect_read_ffr(s, RDFFR, s.ffr, s.flags);
+    expect_read_ffr(s, RDFFR_PG | 4 << 5, both, s.flags);
+    uint64_t end = vl / 8, half = end / 2;
+    s.p[4] = ones(1, end);
+    s.ffr = ones(0, half);
+    expect_read_ffr(s, RDFFRS_PG | 4 << 5, ones(1, half), (struct plokamyr_flags){.n = true, .c = true});
+    s.ffr = ones(half, end);
+    expect_read_ffr(s, RDFFRS_PG | 4 << 5, ones(half, end), (struct plokamyr_flags){.n = false});
+    s.ffr = ones(0, 1);
+    expect_read_ffr(s, RDFFRS_PG | 4 << 5, ones(0, 0), (struct plokamyr_flags){.z = true, .c = true});
+    s.p[5] = ones(2, half);
+    s.ffr = ones(0, end);
+    expect_read_ffr(s, RDFFRS_PG | 5 << 5, ones(2, half), (struct plokamyr_flags){.n = true}); /* Pd is Pg */
+    struct plokamyr_state after = both_steps(&s, SETFFR, PLOKAMYR_DONE);
+    CHECK(same_state(&after, &s));
+}
+
+/* 14 comes after 4, 2 and 3. */
+static void ffr_refusals(void) {
+    struct plokamyr_state s = sample(1024);
+    s.p[0] = ones(0, 70);
+    s.p[0].words[1] ^= 1; /* a hole at bit 64: each word is a run of ones but for that */
+    expect_step(&s, WRFFR, PLOKAMYR_NOT_MONOTONIC);
+    s.access = false;
+    expect_step(&s, WRFFR, PLOKAMYR_ACCESS_OFF);
+    s.level = 0;
+    expect_step(&s, WRFFR, PLOKAMYR_LEVEL_TOO_LOW);
+    s.ffr.words[2] = 1;
+    expect_step(&s, WRFFR, PLOKAMYR_ILLEGAL_STATE);
+}
+
 /* ---- run */
 
 static GUARDED(struct plokamyr_state value) runner;
@@ -249,6 +342,9 @@ static void run_stops(void) {
         words[3] = unsupported[i];
         expect_three(&s, words, 5, PLOKAMYR_UNSUPPORTED_FORM);
     }
+    s.p[9] = ones(1, 3);
+    words[3] = WRFFR | 9 << 5;
+    expect_three(&s, words, 5, PLOKAMYR_NOT_MONOTONIC);
 }
 
 /* ---- walk */
@@ -439,11 +535,13 @@ static void expect_wrong(size_t length, size_t at, uint8_t byte, size_t section_
 
 static void read_wrong(uint64_t vl) {
     size_t length = good_image(vl);
-    size_t x = 4 + 3, p = x + 4 + 31 * 8, flags = p + 4 + 16 * vl / 64, words = flags + 4 + 4;
-    const size_t counts[4] = {0, x, p, flags};
-    for (int i = 0; i < 4; i++) {
+    size_t x = 4 + 3, p = x + 4 + 31 * 8, ffr = p + 4 + 16 * vl / 64, flags = ffr + 4 + vl / 64, words = flags + 4 + 4;
+    const size_t counts[5] = {0, x, p, ffr, flags};
+    for (int i = 0; i < 5; i++) {
         for (size_t k = 0; k < 4; k++) expect_wrong(length, counts[i] + k, image[counts[i] + k] ^ 0x80, counts[i] + 4);
     }
+    static const uint8_t counts_wrong[7] = {0, 2, 3, 5, 8, 16, 255}; /* neither FFR's count nor that of the flags */
+    for (int i = 0; i < 7; i++) expect_wrong(length, ffr, counts_wrong[i], ffr + 4);
     static const uint8_t lengths_wrong[7] = {0, 3, 5, 15, 17, 32, 255};
     for (int i = 0; i < 7; i++) expect_wrong(length, 4, lengths_wrong[i], 7);
     expect_wrong(length, 5, 4, 7);
@@ -477,6 +575,45 @@ static void read_edges(uint64_t vl) {
     CHECK(same_state(&reading.state, &s));
 }
 
+/* An image of the older kind, made of one of ours: it has no section for FFR, so that the count of the flags comes after P. */
+static size_t old_image(uint64_t vl, size_t length) {
+    size_t ffr = 4 + 3 + 4 + 31 * 8 + 4 + 16 * vl / 64, section = 4 + vl / 64;
+    memmove(image + ffr, image + ffr + section, length - ffr - section);
+    return length - section;
+}
+
+/* It is read with an FFR that is all false, and written back with a section that says so. */
+static void read_old(uint64_t vl) {
+    static uint8_t back[sizeof image], expected[sizeof image];
+    struct plokamyr_state s = sample(vl);
+    memset(&s.ffr, 0, sizeof s.ffr);
+    size_t whole = plokamyr_write(s, three, 3, expected, sizeof expected).length, length = old_image(vl, good_image(vl));
+    for (size_t i = 0; i < length; i++) expect_read(image, i, 8, PLOKAMYR_IMAGE_CUT);
+    expect_read(image, length + 1, 8, PLOKAMYR_TRAILING_BYTES);
+    expect_read(image, length, 2, PLOKAMYR_BUFFER_TOO_SMALL);
+    FILL(words_read);
+    struct plokamyr_reading reading = plokamyr_read(image, length, words_read.value, 8);
+    CHECK(reading.reply == PLOKAMYR_DONE);
+    CHECK(reading.count == 3);
+    CHECK(same_state(&reading.state, &s));
+    CHECK(memcmp(words_read.value, three, sizeof three) == 0);
+    CHECK(plokamyr_write(reading.state, words_read.value, 3, back, sizeof back).length == whole);
+    CHECK(memcmp(back, expected, whole) == 0);
+    CHECK(whole == length + 4 + vl / 64);
+}
+
+/* A section of FFR with another count and as many times its bytes; with none at all, the count alone. */
+static void read_ffrs(uint64_t vl) {
+    static const uint8_t counts[4] = {0, 2, 3, 16};
+    for (int i = 0; i < 4; i++) {
+        size_t length = good_image(vl), bytes = vl / 64, ffr = 4 + 3 + 4 + 31 * 8 + 4 + 16 * bytes + 4;
+        memmove(image + ffr + counts[i] * bytes, image + ffr + bytes, length - ffr - bytes);
+        for (size_t k = 0; k < counts[i] * bytes; k++) image[ffr + k] = 0;
+        image[ffr - 4] = counts[i];
+        expect_read(image, length + counts[i] * bytes - bytes, 8, PLOKAMYR_NOT_ALLOWED);
+    }
+}
+
 /* ---- write */
 
 static uint32_t many[PLOKAMYR_WORDS_MAX + 1];
@@ -502,7 +639,8 @@ static void write_refusals(void) {
     }
     for (int i = 0; i < 5; i++) {
         struct plokamyr_state s = sample(lengths[i]);
-        size_t least = 4 + 3 + 4 + 31 * 8 + 4 + 16 * lengths[i] / 64 + 4 + 4 + 4;
+        size_t least = 4 + 3 + 4 + 31 * 8 + 4 + 16 * lengths[i] / 64 + 4 + lengths[i] / 64 + 4 + 4 + 4;
+        CHECK(i > 0 || least == 313);
         expect_write(&s, PLOKAMYR_WORDS_MAX + 1, 0, PLOKAMYR_NOT_ALLOWED);
         expect_write(&s, PLOKAMYR_WORDS_MAX + 1, PLOKAMYR_IMAGE_MAX, PLOKAMYR_NOT_ALLOWED);
         expect_write(&s, 0, 0, PLOKAMYR_BUFFER_TOO_SMALL);
@@ -574,6 +712,7 @@ static void expect_last_line(uint32_t word, enum plokamyr_reply reply) {
 static void last_lines(void) {
     for (int i = 0; i < FOREIGN; i++) expect_last_line(foreign[i], PLOKAMYR_FOREIGN_WORD);
     for (int i = 0; i < UNSUPPORTED; i++) expect_last_line(unsupported[i], PLOKAMYR_UNSUPPORTED_FORM);
+    expect_last_line(WRFFR, PLOKAMYR_NOT_MONOTONIC); /* p0 has 0111 */
 }
 
 /* The text of 4,096 words, of which the last may be refused. PLOKAMYR_TEXT_MAX is no less, whatever it is. */
@@ -600,7 +739,7 @@ static void longest_texts(void) {
 /* ---- words */
 
 /* The bits of each field; the places after them have none, so that 0 alone is allowed there. */
-enum { FORMS = 12 };
+enum { FORMS = 17 };
 static const uint8_t field_bits[FORMS][PLOKAMYR_ROW - 1] = {
     [PLOKAMYR_WHILE_ONE] = {2, 5, 1, 1, 1, 5, 1, 4},
     [PLOKAMYR_WHILE_PAIR] = {2, 5, 1, 1, 5, 3, 1},
@@ -614,6 +753,11 @@ static const uint8_t field_bits[FORMS][PLOKAMYR_ROW - 1] = {
     [PLOKAMYR_PTEST] = {4, 4},
     [PLOKAMYR_PFALSE] = {4},
     [PLOKAMYR_LOGIC] = {1, 1, 4, 4, 1, 4, 1, 4},
+    [PLOKAMYR_SETFFR] = {0},
+    [PLOKAMYR_WRFFR] = {4},
+    [PLOKAMYR_RDFFR] = {4},
+    [PLOKAMYR_RDFFR_PG] = {4, 4},
+    [PLOKAMYR_RDFFRS_PG] = {4, 4},
 };
 
 static void expect_encode(const uint8_t row[PLOKAMYR_ROW], enum plokamyr_reply reply) {
@@ -660,7 +804,7 @@ static void expect_decode(uint32_t word, enum plokamyr_reply reply, const uint8_
 }
 
 static void each_form(void) {
-    enum { KNOWN = 17 };
+    enum { KNOWN = 22 };
     static const struct {
         uint32_t word;
         uint8_t row[PLOKAMYR_ROW];
@@ -682,6 +826,11 @@ static void each_form(void) {
         {SEL, {PLOKAMYR_LOGIC, 0, 0, 3, 1, 1, 2, 1, 0}},                /* SEL p0.b, p1, p2.b, p3.b */
         {0x25C2422F, {PLOKAMYR_LOGIC, 1, 1, 2, 0, 1, 1, 0, 15}},        /* NORS p15.b, p0/z, p1.b, p2.b */
         {0x25CF7FFF, {PLOKAMYR_LOGIC, 1, 1, 15, 15, 1, 15, 1, 15}},     /* NANDS p15.b, p15/z, p15.b, p15.b */
+        {0x252C9000, {PLOKAMYR_SETFFR}},                                /* SETFFR */
+        {0x252890E0, {PLOKAMYR_WRFFR, 7}},                              /* WRFFR p7.b */
+        {0x2519F007, {PLOKAMYR_RDFFR, 7}},                              /* RDFFR p7.b */
+        {0x2518F065, {PLOKAMYR_RDFFR_PG, 3, 5}},                        /* RDFFR p5.b, p3/z */
+        {0x2558F1EF, {PLOKAMYR_RDFFRS_PG, 15, 15}},                     /* RDFFRS p15.b, p15/z */
     };
     for (int i = 0; i < KNOWN; i++) {
         uint32_t word = 0;
@@ -719,6 +868,11 @@ int main(void) {
     steps_agree();
     counters_read();
     searches();
+    ffr_refusals();
+    for (int i = 0; i < 5; i++) {
+        ffr_written(lengths[i]);
+        ffr_read(lengths[i]);
+    }
     run_refusals();
     run_stops();
     walk_registers();
@@ -728,6 +882,8 @@ int main(void) {
     for (int i = 0; i < 5; i++) {
         read_edges(lengths[i]);
         read_wrong(lengths[i]);
+        read_old(lengths[i]);
+        read_ffrs(lengths[i]);
     }
     write_refusals();
     text_edges();

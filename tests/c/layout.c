@@ -5,10 +5,10 @@ static void sizes(void) {
     CHECK(sizeof(enum plokamyr_reply) == 4);
     CHECK(sizeof(struct plokamyr_predicate) == 32);
     CHECK(sizeof(struct plokamyr_flags) == 4);
-    CHECK(sizeof(struct plokamyr_state) == 776);
+    CHECK(sizeof(struct plokamyr_state) == 808);
     CHECK(sizeof(struct plokamyr_ran) == 16);
-    CHECK(sizeof(struct plokamyr_walked) == 800);
-    CHECK(sizeof(struct plokamyr_reading) == 792);
+    CHECK(sizeof(struct plokamyr_walked) == 832);
+    CHECK(sizeof(struct plokamyr_reading) == 824);
     CHECK(sizeof(struct plokamyr_written) == 16);
 }
 
@@ -24,6 +24,7 @@ static void offsets(void) {
     CHECK(offsetof(struct plokamyr_state, flags) == 10);
     CHECK(offsetof(struct plokamyr_state, x) == 16);
     CHECK(offsetof(struct plokamyr_state, p) == 264);
+    CHECK(offsetof(struct plokamyr_state, ffr) == 776);
     CHECK(offsetof(struct plokamyr_ran, reply) == 0);
     CHECK(offsetof(struct plokamyr_ran, refused) == 4);
     CHECK(offsetof(struct plokamyr_ran, done) == 8);
@@ -45,12 +46,16 @@ static size_t put(uint8_t *to, size_t at, uint64_t value, size_t bytes) {
     return at + bytes;
 }
 
+static size_t put_predicate(uint8_t *to, size_t at, const struct plokamyr_predicate *p, uint64_t vl) {
+    for (size_t k = 0; k < vl / 64; k++) at = put(to, at, p->words[k / 8] >> (8 * (k % 8)), 1);
+    return at;
+}
+
 static size_t put_predicates(uint8_t *to, size_t at, const struct plokamyr_state *s) {
     at = put(to, at, 16, 4);
-    for (size_t i = 0; i < 16; i++) {
-        for (size_t k = 0; k < s->vl / 64; k++) at = put(to, at, s->p[i].words[k / 8] >> (8 * (k % 8)), 1);
-    }
-    return at;
+    for (size_t i = 0; i < 16; i++) at = put_predicate(to, at, &s->p[i], s->vl);
+    at = put(to, at, 1, 4);
+    return put_predicate(to, at, &s->ffr, s->vl);
 }
 
 static size_t image_of(const struct plokamyr_state *s, const uint32_t *words, size_t count, uint8_t *to) {
@@ -96,6 +101,7 @@ static void check_fields(const struct plokamyr_state *a, const struct plokamyr_s
     for (int i = 0; i < 16; i++) {
         for (int k = 0; k < 4; k++) CHECK(a->p[i].words[k] == b->p[i].words[k]);
     }
+    for (int k = 0; k < 4; k++) CHECK(a->ffr.words[k] == b->ffr.words[k]);
 }
 
 static void check_walked(const struct plokamyr_walked *walked, const struct plokamyr_state *after) {
@@ -215,20 +221,39 @@ static struct plokamyr_state cleared(struct plokamyr_state s, int p) {
     return s;
 }
 
-static void stepped_fields(uint64_t vl) {
+/* All bits of FFR true that the length has. */
+static struct plokamyr_state with_full_ffr(struct plokamyr_state s) {
+    for (uint64_t k = 0; k < 4; k++) s.ffr.words[k] = live(s.vl, k);
+    return s;
+}
+
+static void expect_stepped(const struct plokamyr_state *s, uint32_t word, const struct plokamyr_state *after) {
     enum plokamyr_reply (*const volatile steps[2])(struct plokamyr_state *, uint32_t) = {plokamyr_step, plokamyr_step_lent};
-    struct plokamyr_state s = sample(vl), after = cleared(s, 7);
     for (int i = 0; i < 2; i++) {
         FILL(box);
-        box.value = s;
+        box.value = *s;
         poison_stack();
-        CHECK(steps[i](&box.value, 0x2518E407) == PLOKAMYR_DONE); /* PFALSE p7 */
-        check_fields(&box.value, &after);
+        CHECK(steps[i](&box.value, word) == PLOKAMYR_DONE);
+        check_fields(&box.value, after);
         CHECK_GUARDS(box);
     }
 }
 
-static const uint32_t three_and_none[4] = {0x2518E403, 0x2518E405, 0x2518E40F, 0}; /* PFALSE p3, p5, p15 */
+static void stepped_fields(uint64_t vl) {
+    struct plokamyr_state s = sample(vl), after = cleared(s, 7);
+    expect_stepped(&s, 0x2518E407, &after); /* PFALSE p7 */
+    after = with_full_ffr(s);
+    expect_stepped(&s, 0x252C9000, &after); /* SETFFR */
+    after = s;
+    after.p[15] = s.ffr;
+    expect_stepped(&s, 0x2519F00F, &after); /* RDFFR p15.b */
+}
+
+static const uint32_t three_and_none[4] = {0x2518E403, 0x252C9000, 0x2518E40F, 0}; /* PFALSE p3, SETFFR, PFALSE p15 */
+
+static struct plokamyr_state after_three(struct plokamyr_state s) {
+    return with_full_ffr(cleared(cleared(s, 3), 15));
+}
 
 static void check_ran(struct plokamyr_ran ran) {
     CHECK(ran.reply == PLOKAMYR_DONE);
@@ -237,7 +262,7 @@ static void check_ran(struct plokamyr_ran ran) {
 }
 
 static void ran_fields(uint64_t vl) {
-    struct plokamyr_state s = sample(vl), after = cleared(cleared(cleared(s, 3), 5), 15);
+    struct plokamyr_state s = sample(vl), after = after_three(s);
     FILL(box);
     box.value = s;
     poison_stack();
@@ -246,10 +271,10 @@ static void ran_fields(uint64_t vl) {
     CHECK_GUARDS(box);
 }
 
-/* Parts that lie apart from each other. */
+/* Parts that lie apart from each other. FFR is the seventeenth predicate. */
 static GUARDED(struct plokamyr_flags value) flags;
 static GUARDED(uint64_t value[31]) x;
-static GUARDED(struct plokamyr_predicate value[16]) p;
+static GUARDED(struct plokamyr_predicate value[17]) p;
 
 static void lay_out(const struct plokamyr_state *s) {
     FILL(flags);
@@ -257,7 +282,8 @@ static void lay_out(const struct plokamyr_state *s) {
     FILL(p);
     flags.value = s->flags;
     memcpy(x.value, s->x, sizeof x.value);
-    memcpy(p.value, s->p, sizeof p.value);
+    memcpy(p.value, s->p, sizeof s->p);
+    p.value[16] = s->ffr;
 }
 
 static void check_parts(const struct plokamyr_state *after) {
@@ -265,6 +291,7 @@ static void check_parts(const struct plokamyr_state *after) {
     s.flags = flags.value;
     memcpy(s.x, x.value, sizeof s.x);
     memcpy(s.p, p.value, sizeof s.p);
+    s.ffr = p.value[16];
     check_fields(&s, after);
     CHECK_GUARDS(flags);
     CHECK_GUARDS(x);
@@ -276,16 +303,18 @@ static void parts_apart(uint64_t vl) {
     CHECK(plokamyr_step_lent(&after, 0x2550C1E0) == PLOKAMYR_DONE); /* PTEST p0, p15.b writes the flags, */
     CHECK(plokamyr_step_lent(&after, 0x252C89FE) == PLOKAMYR_DONE); /* INCP x30, p15.b the last register, */
     CHECK(plokamyr_step_lent(&after, 0x2558C00F) == PLOKAMYR_DONE); /* PFIRST p15.b, p0, p15.b the last predicate, */
-    CHECK(plokamyr_step_lent(&after, 0x25C2422F) == PLOKAMYR_DONE); /* NORS p15.b, p0/z, p1.b, p2.b that and the flags */
+    CHECK(plokamyr_step_lent(&after, 0x25C2422F) == PLOKAMYR_DONE); /* NORS p15.b, p0/z, p1.b, p2.b that and the flags, */
+    CHECK(plokamyr_step_lent(&after, 0x2558F00E) == PLOKAMYR_DONE); /* RDFFRS p14.b, p0/z the last but one and the flags, */
+    CHECK(plokamyr_step_lent(&after, 0x252C9000) == PLOKAMYR_DONE); /* SETFFR the one after the last predicate */
     lay_out(&s);
     poison_stack();
-    static const uint32_t words[4] = {0x2550C1E0, 0x252C89FE, 0x2558C00F, 0x25C2422F};
-    for (int i = 0; i < 4; i++) CHECK(plokamyr_step_parts(vl, 3, true, &flags.value, x.value, p.value, words[i]) == PLOKAMYR_DONE);
+    static const uint32_t words[6] = {0x2550C1E0, 0x252C89FE, 0x2558C00F, 0x25C2422F, 0x2558F00E, 0x252C9000};
+    for (int i = 0; i < 6; i++) CHECK(plokamyr_step_parts(vl, 3, true, &flags.value, x.value, p.value, words[i]) == PLOKAMYR_DONE);
     check_parts(&after);
     lay_out(&s);
     poison_stack();
     check_ran(plokamyr_run_parts(vl, 3, true, &flags.value, x.value, p.value, three_and_none, 4));
-    after = cleared(cleared(cleared(s, 3), 5), 15);
+    after = after_three(s);
     check_parts(&after);
 }
 

@@ -8,7 +8,7 @@ static enum plokamyr_reply numbered(uint32_t number) {
 }
 
 enum plokamyr_reply plokamyr_step_parts(uint64_t vl, uint8_t level, bool access, struct plokamyr_flags *flags, uint64_t x[31],
-                                        struct plokamyr_predicate p[16], uint32_t word) {
+                                        struct plokamyr_predicate p[17], uint32_t word) {
     return numbered(word);
 }
 
@@ -18,7 +18,7 @@ enum plokamyr_reply plokamyr_step_lent(struct plokamyr_state *state, uint32_t wo
 
 /* The first two words are the two replies. */
 struct plokamyr_ran plokamyr_run_parts(uint64_t vl, uint8_t level, bool access, struct plokamyr_flags *flags, uint64_t x[31],
-                                       struct plokamyr_predicate p[16], const uint32_t *words, size_t count) {
+                                       struct plokamyr_predicate p[17], const uint32_t *words, size_t count) {
     return (struct plokamyr_ran){numbered(words[0]), numbered(words[1]), count};
 }
 

@@ -12,6 +12,7 @@ ghost use Rattle.image.specs.Writing.{writtenOf, bufferAfter};
 ghost use Rattle.transcript.specs.Transcript.{transcriptOf, afterAll, placedAll};
 ghost use Rattle.capi.specs.Answers.{stateIn, SteppedParts, RanParts, walkedAs, readAs, writtenAs};
 ghost use Rattle.words.specs.Rows.{decodedReply, decodedRow, encodedReply, encodedWord};
+use registers::PREDICATES;
 use registers::State;
 use registers::parts::Settings;
 use words::Decoded;
@@ -45,7 +46,7 @@ pub struct Written {
     pub length: usize,
 }
 
-// One instruction word, executed on a state's parts where they stand. The header's plokamyr_step lends those of a struct.
+// One instruction word, executed on a state's parts where they stand; `p` is P0 to P15 and FFR. The header's plokamyr_step lends those of a struct.
 #[no_mangle]
 pub extern "C" fn plokamyr_step_parts(
     vl: u64,
@@ -53,7 +54,7 @@ pub extern "C" fn plokamyr_step_parts(
     access: bool,
     flags: &mut [bool; 4],
     x: &mut [u64; 31],
-    p: &mut [[u64; 4]; 16],
+    p: &mut [[u64; 4]; PREDICATES],
     word: u32,
 ) -> u32
     ensures { λ r. ⌜ SteppedParts r word (stateIn vl level access (now (flags .entry)) (now (x .entry)) (now (p .entry)))
@@ -72,7 +73,7 @@ pub extern "C" fn plokamyr_run_parts(
     access: bool,
     flags: &mut [bool; 4],
     x: &mut [u64; 31],
-    p: &mut [[u64; 4]; 16],
+    p: &mut [[u64; 4]; PREDICATES],
     words: &[u32],
 ) -> Ran
     ensures { λ r. ⌜ RanParts r (now (words .entry)) (stateIn vl level access (now (flags .entry)) (now (x .entry)) (now (p .entry)))

@@ -1,8 +1,9 @@
--- The image of document 01's example, written, read and written again: the hypotheses of the round trips are met. Assumes nothing.
+-- The image of document 01's example and its old image, written, read and written again: the hypotheses of the round trips are met. Assumes nothing.
 use mathlib.Core.Bool.{Bool, true, false, _&&_}
 use mathlib.Core.List.{List, [], _∷_, _++_}
 use mathlib.Core.Path.{_≡_, refl, ap, _∙_}
 use Prim.Native.Nat.{ℕ, zero, suc, _^_, _<_}
+use native.Mathlib.Omega.{arith}
 use lib.Dec.{ltb, leb, lit<, lit≤}
 use lib.ListN.{getD, replicate, getD-replicate}
 use borrow.Author.Tests.{ltb-true}
@@ -14,29 +15,41 @@ use Rattle.predicates.proofs.Words.{pack-bit, pack-words}
 use Rattle.replies.specs.declared.Reply.the-variants as R
 use Rattle.registers.specs.declared.State.{State}
 use Rattle.registers.specs.Legal.{isLength, legal}
-use Rattle.registers.specs.State.{allFalse, made, readP}
+use Rattle.registers.specs.State.{allFalse, ffr, made, readP}
 use Rattle.registers.proofs.Legality.{has-legal}
 use Rattle.octets.specs.Bytes.{le, value, joined, over}
-use Rattle.image.specs.Sections.{setting, sections, sectionReply, orElse, sectionsReply, startOf}
+use Rattle.image.specs.Sections.{setting, sections, sectionAt, sectionReply, orElse, sectionsReply, startOf, bytesOf}
 use Rattle.image.specs.Image.{section, predicateBytes, imageOf}
-use Rattle.image.specs.Reading.{imageReply, stateOf, wordsOf, readOf, listAfter}
+use Rattle.image.specs.Reading.{sectionsOf, isOld, imageReply, stateOf, wordsOf, renewed, readOf, listAfter}
 use Rattle.octets.proofs.Bytes.{AreBytes}
-use Rattle.image.proofs.RoundTrips.{Held, read-written, list-written, written-read}
+use Rattle.image.proofs.Readings.{read-old, ffr-count}
+use Rattle.image.proofs.RoundTrips.{Held, read-written, list-written, written-new, written-read}
 
 -- VL 128, level 1, access on, X1 = 10, X2 = 13, all else zero
 abbrev pub state : State
-state = made 128 1 true (record { n = false; z = false; c = false; v = false }) (0 ∷ 10 ∷ 13 ∷ replicate 28 0) (replicate 16 allFalse)
+state = made 128 1 true (record { n = false; z = false; c = false; v = false }) (0 ∷ 10 ∷ 13 ∷ replicate 28 0) (replicate 17 allFalse)
 
 -- 25A21C20, 2519C401, 00000000
 abbrev pub words : List ℕ
 words = 631381024 ∷ 622445569 ∷ 0 ∷ []
 
--- its 319 bytes
-abbrev pub image : List ℕ
-image =
+-- its bytes up to FFR
+abbrev front : List ℕ
+front =
     3 ∷ 0 ∷ 0 ∷ 0 ∷ 1 ∷ 1 ∷ 1 ∷ 31 ∷ 0 ∷ 0 ∷ 0 ∷ replicate 8 0
-    ++ (10 ∷ replicate 7 0 ++ (13 ∷ replicate 7 0 ++ (replicate 224 0 ++ (16 ∷ 0 ∷ 0 ∷ 0 ∷ replicate 32 0
-    ++ (4 ∷ 0 ∷ 0 ∷ 0 ∷ 0 ∷ 0 ∷ 0 ∷ 0 ∷ 3 ∷ 0 ∷ 0 ∷ 0 ∷ 32 ∷ 28 ∷ 162 ∷ 37 ∷ 1 ∷ 196 ∷ 25 ∷ 37 ∷ 0 ∷ 0 ∷ 0 ∷ 0 ∷ [])))))
+    ++ (10 ∷ replicate 7 0 ++ (13 ∷ replicate 7 0 ++ (replicate 224 0 ++ (16 ∷ 0 ∷ 0 ∷ 0 ∷ replicate 32 0))))
+
+-- its bytes from the flags on
+abbrev end : List ℕ
+end = 4 ∷ 0 ∷ 0 ∷ 0 ∷ 0 ∷ 0 ∷ 0 ∷ 0 ∷ 3 ∷ 0 ∷ 0 ∷ 0 ∷ 32 ∷ 28 ∷ 162 ∷ 37 ∷ 1 ∷ 196 ∷ 25 ∷ 37 ∷ 0 ∷ 0 ∷ 0 ∷ 0 ∷ []
+
+-- its 325 bytes
+abbrev pub image : List ℕ
+image = front ++ (1 ∷ 0 ∷ 0 ∷ 0 ∷ 0 ∷ 0 ∷ end)
+
+-- the 319 bytes of its old image, which has no FFR
+abbrev pub old : List ℕ
+old = front ++ end
 
 pub image-bytes : imageOf state words ≡ image
 unfolding imageOf section predicateBytes joined le number bitAt pack testBit
@@ -58,8 +71,8 @@ below-all m [] h e i = h
 below-all m (x ∷ xs) h e zero = ltb-true x m (both (ltb x m) (allBelow m xs) e .0)
 below-all m (x ∷ xs) h e (suc i) = below-all m xs h (both (ltb x m) (allBelow m xs) e .1) i
 
-none-false : (r : ℕ) → r < 16 → readP state r ≡ allFalse
-none-false r h = getD-replicate 16 r allFalse allFalse h
+none-false : (r : ℕ) → r < 17 → readP state r ≡ allFalse
+none-false r h = getD-replicate 17 r allFalse allFalse h
 
 pub held : Held state
 unfolding allBelow
@@ -85,6 +98,22 @@ pub reply : imageReply 3 image ≡ R.Done
 unfolding imageReply sections setting sectionsReply sectionReply startOf orElse isLength some value
 reply = refl
 
+pub is-new : isOld image ≡ false
+unfolding sections startOf value
+is-new = refl
+
+pub old-bytes : AreBytes old
+unfolding allBelow
+old-bytes = below-all 256 old (lit< tt) refl
+
+pub old-reply : imageReply 3 old ≡ R.Done
+unfolding imageReply sections setting sectionsReply sectionReply startOf orElse isLength some value
+old-reply = refl
+
+pub is-old : isOld old ≡ true
+unfolding sections startOf value
+is-old = refl
+
 -- ---- the round trips
 
 pub read-back : readOf 3 image ≡ record { reply = R.Done; state = state; count = 3 }
@@ -96,4 +125,30 @@ unfolding allBelow over
 list-back = rw image-bytes at (list-written state words held lawful (lit≤ tt) (below-all (2 ^ 32) words (lit< tt) refl) (9 ∷ 9 ∷ 9 ∷ 9 ∷ 9 ∷ []) (lit≤ tt))
 
 pub written-again : imageOf (stateOf image) (wordsOf image) ≡ image
-written-again = written-read image 3 bytes reply
+written-again = written-new image 3 bytes reply is-new
+
+-- of the old image the new one
+pub renewed-is : renewed old ≡ image
+unfolding sections bytesOf startOf value section predicateBytes joined le number bitAt pack testBit
+renewed-is = refl
+
+pub old-written : imageOf (stateOf old) (wordsOf old) ≡ image
+old-written = written-read old 3 old-bytes old-reply ∙ renewed-is
+
+pub old-read : readP (stateOf old) ffr ≡ allFalse
+old-read = read-old old is-old
+
+-- ---- another count at FFR's place
+
+abbrev odd : List ℕ
+odd = front ++ (2 ∷ 0 ∷ 0 ∷ 0 ∷ end)
+
+pub odd-refused : imageReply 3 odd ≡ R.NotAllowed
+unfolding sections setting sectionReply startOf isLength some value
+odd-refused = ffr-count 3 odd earlier (lit≤ tt) (λ e. omega arith) (λ e. omega arith)
+  where
+    earlier : (j : ℕ) → j < 3 → sectionReply (sectionAt (sectionsOf odd) j) (startOf (sectionsOf odd) j odd) ≡ R.Done
+    earlier zero l = refl
+    earlier (suc zero) l = refl
+    earlier (suc (suc zero)) l = refl
+    earlier (suc (suc (suc j))) l = absurd (omega arith)

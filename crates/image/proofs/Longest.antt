@@ -1,12 +1,12 @@
--- No image without a fault is longer than 17,171 bytes, and a longer input has the reply of its first 17,172 bytes. Assumes nothing.
-use mathlib.Core.Bool.{Bool, true, false, not, _||_}
+-- No image without a fault is longer than the largest image, and a longer input has the reply of its beginning. Assumes nothing.
+use mathlib.Core.Bool.{Bool, true, false, not, _&&_, _||_}
 use mathlib.Core.List.{List, [], _∷_}
 use mathlib.Core.Path.{_≡_, refl, sym, ap, ap₂, _∙_}
 use Prim.Native.Nat.{ℕ, zero, suc, _+_, _-_, _*_, _≤_, _<_, min}
 use native.Mathlib.Nat.{mul-le-mul-right, sub-zero}
 use native.Mathlib.Decide.{decLt}
 use native.Mathlib.Omega.{arith}
-use lib.Dec.{ltb, lit<, lit≤}
+use lib.Dec.{ltb, eqb, lit<}
 use lib.ListN.{length, take, drop, getD, length-take, length-drop}
 use lib.Seq.{take-all, take-take, getD-take, getD-drop}
 use borrow.Author.Tests.{lt-ltb, le-ltb, ltb-false}
@@ -17,9 +17,10 @@ use Rattle.replies.specs.declared.Reply.{Reply}
 use Rattle.replies.specs.declared.Reply.the-variants as R
 use Rattle.replies.specs.Reply.{isDone}
 use Rattle.registers.proofs.Legality.{settings-has, quads}
-use Rattle.image.specs.Sections.{Section, setting, sections, sectionAt, countOf, contentOf, after, hasWrong, sectionReply, orElse, sectionsReply, bytesOf}
+use Rattle.image.specs.Sections.{Section, setting, sections, sectionAt, countOf, contentOf, isMissing, after, hasWrong, sectionReply, orElse, sectionsReply, bytesOf, largestImage}
 use Rattle.image.specs.Reading.{vlOf, sectionsOf, imageReply}
-use Rattle.image.proofs.SectionLaws.{whole, is-done, both-done, not-refused, neither}
+use Rattle.image.proofs.SectionLaws.{taken, after-taken, taken-most, whole, is-done, both-done, not-refused, neither}
+use Rattle.image.proofs.Writings.{largest-is}
 
 -- the most bytes that sections have
 abbrev most : List Section → ℕ
@@ -75,8 +76,14 @@ cut-section s rest m h =
     ap₂ (λ (a b : Bool). pick a R.ImageCut (pick b R.NotAllowed R.Done)) (ap (λ (k : ℕ). ltb k (4 + n * s .item)) (length-take m rest) ∙ cut-below (length rest) m (4 + n * s .item) (omega arith))
     (some-cong (λ i. not (s .allowed i (getD (contentOf (take m rest)) i 0))) (λ i. not (s .allowed i (getD (contentOf rest) i 0))) (n * s .item) (λ i k. ap (λ (b : ℕ). not (s .allowed i b)) (byte-cut m rest i (omega arith)))) in
     rw (count-cut m rest (omega arith))
-    (ap (λ (t : Bool). pick t R.ImageCut (pick wrong R.NotAllowed (pick (ltb (length (take m rest)) (4 + n * s .item)) R.ImageCut (pick (hasWrong s (contentOf (take m rest)) (n * s .item)) R.NotAllowed R.Done))))
-    (ap (λ (k : ℕ). ltb k 4) (length-take m rest) ∙ cut-below (length rest) m 4 (omega arith)) ∙ ap (pick (ltb (length rest) 4) R.ImageCut) (unless wrong R.NotAllowed _ _ content))
+    (ap₂ (λ (t : Bool) (f : Reply). pick t R.ImageCut f) (ap (λ (k : ℕ). ltb k 4) (length-take m rest) ∙ cut-below (length rest) m 4 (omega arith))
+    (unless (isMissing s rest) R.Done _ _ (λ _. unless wrong R.NotAllowed _ _ content)))
+
+-- what follows a section that was cut is what follows it, cut
+after-cut : (s : Section) (rest : List ℕ) (m : ℕ) → 4 ≤ m → after s (take m rest) ≡ take (m - taken s rest) (after s rest)
+after-cut s rest m h =
+    let e : taken s (take m rest) ≡ taken s rest = ap (λ (n : ℕ). pick (s .optional && eqb n 4) 0 (4 + n * s .item)) (count-cut m rest h) in
+    after-taken s (take m rest) ∙ ap (λ (n : ℕ). drop n (take m rest)) e ∙ drop-cut (taken s rest) m rest ∙ ap (take (m - taken s rest)) (sym (after-taken s rest))
 
 -- ---- all sections
 
@@ -90,26 +97,25 @@ if-done f a b h = go (isDone f) refl
 
 -- given that the sections after it may be cut
 cut-first : (s : Section) (ss : List Section) (rest : List ℕ) (m : ℕ) → 4 + s .highest * s .item ≤ m
-    → ((past : List ℕ) → sectionReply s rest ≡ R.Done → sectionsReply ss (take (m - (4 + countOf rest * s .item)) past) ≡ sectionsReply ss past)
+    → ((past : List ℕ) → sectionReply s rest ≡ R.Done → sectionsReply ss (take (m - taken s rest) past) ≡ sectionsReply ss past)
     → sectionsReply (s ∷ ss) (take m rest) ≡ sectionsReply (s ∷ ss) rest
 unfolding sectionsReply
 cut-first s ss rest m h later =
-    rw (cut-section s rest m h, count-cut m rest (omega arith), drop-cut) (if-done (sectionReply s rest) _ _ (λ e. later (after s rest) e))
+    ap₂ (λ (f : Reply) (past : List ℕ). orElse f (sectionsReply ss past)) (cut-section s rest m h) (after-cut s rest m (omega arith))
+    ∙ if-done (sectionReply s rest) _ _ (λ e. later (after s rest) e)
 
 cut-sections : (ss : List Section) (rest : List ℕ) (m : ℕ) → most ss < m → sectionsReply ss (take m rest) ≡ sectionsReply ss rest
 unfolding sectionsReply bytesOf
 cut-sections [] rest m h = ap (λ (t : Bool). pick t R.TrailingBytes R.Done) (ap (ltb 0) (length-take m rest) ∙ cut-some (length rest) m (omega arith))
 cut-sections (s ∷ ss) rest m h =
-    cut-first s ss rest m (omega arith)
-    (λ past e. cut-sections ss past (m - (4 + countOf rest * s .item)) (let l : countOf rest * s .item ≤ s .highest * s .item = mul-le-mul-right (s .item) (whole s rest e .atMost) in omega arith))
+    cut-first s ss rest m (omega arith) (λ past e. cut-sections ss past (m - taken s rest) (omega (arith, taken-most s rest e)))
 
 no-longer : (ss : List Section) (rest : List ℕ) → sectionsReply ss rest ≡ R.Done → length rest ≤ most ss
 unfolding sectionsReply bytesOf
 no-longer [] rest e = ltb-false 0 (length rest) (not-refused (ltb 0 (length rest)) R.TrailingBytes R.Done (lit< tt) e .0)
 no-longer (s ∷ ss) rest e =
     let a = both-done (sectionReply s rest) (sectionsReply ss (after s rest)) e in
-    let l : countOf rest * s .item ≤ s .highest * s .item = mul-le-mul-right (s .item) (whole s rest (a .0) .atMost) in
-    omega (arith, no-longer ss (after s rest) (a .1), length-drop (4 + countOf rest * s .item) rest)
+    omega (arith, no-longer ss (after s rest) (a .1), taken-most s rest (a .0), ap length (after-taken s rest) ∙ length-drop (taken s rest) rest)
 
 -- ---- an image
 
@@ -117,36 +123,41 @@ no-longer (s ∷ ss) rest e =
 named : (image : List ℕ) → sectionReply (sectionAt (sectionsOf image) 0) image ≡ R.Done → vlOf image ≤ 2048
 unfolding sections setting
 named image e =
-    let w = whole (sectionAt (sectionsOf image) 0) image e in
+    let w = whole (sectionAt (sectionsOf image) 0) image refl e in
     let (q, v, _, l) = quads (vlOf image) (settings-has (vlOf image) 0 (w .right 0 (omega (arith, w .atLeast))) .0) in
     omega arith
 
-sections-cut : (image : List ℕ) → sectionsReply (sectionsOf image) (take 17172 image) ≡ sectionsReply (sectionsOf image) image
+sections-cut : (n : ℕ) → largestImage < n → (image : List ℕ) → sectionsReply (sectionsOf image) (take n image) ≡ sectionsReply (sectionsOf image) image
 unfolding sections bytesOf
-sections-cut image =
-    cut-first (sectionAt (sectionsOf image) 0) (drop 1 (sectionsOf image)) image 17172 (lit≤ tt)
-    (λ past e. cut-sections (drop 1 (sectionsOf image)) past (17172 - (4 + countOf image * 1)) (let w = whole (sectionAt (sectionsOf image) 0) image e in omega (arith, named image e, w .atMost)))
+sections-cut n h image =
+    let l : 17207 < n = rw largest-is at h in
+    cut-first (sectionAt (sectionsOf image) 0) (drop 1 (sectionsOf image)) image n (omega arith)
+    (λ past e. cut-sections (drop 1 (sectionsOf image)) past (n - taken (sectionAt (sectionsOf image) 0) image) (omega (arith, named image e, taken-most (sectionAt (sectionsOf image) 0) image e)))
 
--- An image without a fault has at most 17,171 bytes.
-pub longest-read : (image : List ℕ) → sectionsReply (sectionsOf image) image ≡ R.Done → length image ≤ 17171
+-- An image without a fault has at most as many bytes as the largest.
+pub longest-read : (image : List ℕ) → sectionsReply (sectionsOf image) image ≡ R.Done → length image ≤ largestImage
 unfolding sections sectionsReply bytesOf
-longest-read image e = omega (arith, no-longer (sectionsOf image) image e, named image (both-done (sectionReply (sectionAt (sectionsOf image) 0) image) _ e .0))
+longest-read image e = omega (arith, largest-is, no-longer (sectionsOf image) image e, named image (both-done (sectionReply (sectionAt (sectionsOf image) 0) image) _ e .0))
 
 refused : (room : ℕ) (image : List ℕ) → isDone (sectionsReply (sectionsOf image) image) ≡ false → imageReply room image ≡ sectionsReply (sectionsOf image) image
 unfolding imageReply orElse
 refused room image e = rw e
 
-same-vl : (image : List ℕ) → vlOf (take 17172 image) ≡ vlOf image
-same-vl image = ap (λ (b : ℕ). 128 * b) (byte-cut 17172 image 0 (lit< tt))
-
--- An input that is longer than every image has the reply of its beginning: one byte more than the longest image tells it.
-pub reply-of-beginning : (room : ℕ) (image : List ℕ) → imageReply room (take 17172 image) ≡ imageReply room image
-reply-of-beginning room image =
+-- An input that is longer than every image has the reply of its beginning, as long as that is longer than every image too ..
+pub reply-of-front : (n : ℕ) → largestImage < n → (room : ℕ) (image : List ℕ) → imageReply room (take n image) ≡ imageReply room image
+reply-of-front n h room image =
     cases (isDone (sectionsReply (sectionsOf image) image)) refl
   where
-    same : sectionsReply (sectionsOf (take 17172 image)) (take 17172 image) ≡ sectionsReply (sectionsOf image) image
-    same = ap (λ (v : ℕ). sectionsReply (sections v) (take 17172 image)) (same-vl image) ∙ sections-cut image
+    same-vl : vlOf (take n image) ≡ vlOf image
+    same-vl = ap (λ (b : ℕ). 128 * b) (byte-cut n image 0 (omega (arith, largest-is)))
 
-    cases : (t : Bool) → isDone (sectionsReply (sectionsOf image) image) ≡ t → imageReply room (take 17172 image) ≡ imageReply room image
-    cases true e = ap (imageReply room) (take-all 17172 image (omega (arith, longest-read image (is-done (sectionsReply (sectionsOf image) image) e))))
-    cases false e = refused room (take 17172 image) (ap isDone same ∙ e) ∙ same ∙ sym (refused room image e)
+    same : sectionsReply (sectionsOf (take n image)) (take n image) ≡ sectionsReply (sectionsOf image) image
+    same = ap (λ (v : ℕ). sectionsReply (sections v) (take n image)) same-vl ∙ sections-cut n h image
+
+    cases : (t : Bool) → isDone (sectionsReply (sectionsOf image) image) ≡ t → imageReply room (take n image) ≡ imageReply room image
+    cases true e = ap (imageReply room) (take-all n image (omega (arith, longest-read image (is-done (sectionsReply (sectionsOf image) image) e))))
+    cases false e = refused room (take n image) (ap isDone same ∙ e) ∙ same ∙ sym (refused room image e)
+
+-- .. which one byte more than the largest image makes it.
+pub reply-of-beginning : (room : ℕ) (image : List ℕ) → imageReply room (take (suc largestImage) image) ≡ imageReply room image
+reply-of-beginning = reply-of-front (suc largestImage) (omega arith)

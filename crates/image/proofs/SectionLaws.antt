@@ -1,12 +1,12 @@
 -- Laws of sections: what the code finds of one by its number, which fault answers, and what a section without one has. Assumes nothing.
-use mathlib.Core.Bool.{Bool, true, false, not, _||_}
+use mathlib.Core.Bool.{Bool, true, false, not, _&&_, _||_}
 use mathlib.Core.List.{List, [], _∷_}
 use mathlib.Core.Path.{_≡_, refl, sym, ap, ap₂, _∙_}
 use Prim.Native.Nat.{ℕ, zero, suc, _+_, _*_, _/_, _≤_, _<_}
-use native.Mathlib.Nat.{le-antisymm, le-trans, mul-le-mul}
+use native.Mathlib.Nat.{le-antisymm, le-trans, mul-le-mul, mul-le-mul-right}
 use native.Mathlib.Numerals.{add-one}
 use native.Mathlib.Omega.{arith}
-use lib.Dec.{ltb, leb, lit<, lit≤}
+use lib.Dec.{ltb, leb, eqb, lit<, lit≤}
 use lib.ListN.{length, take, drop, getD, length-take}
 use lib.Seq.{drop-cons}
 use borrow.Author.Tests.{lt-ltb, le-ltb, ltb-false, eqb-true, not-true, not-false}
@@ -22,59 +22,65 @@ use Rattle.replies.specs.Reply.{numberOf, isDone}
 use Rattle.replies.proofs.Replies.{number-done}
 use Rattle.registers.specs.Legal.{settingsAllowed}
 use Rattle.image.specs.declared.sections.Shape.{Shape}
-use Rattle.image.specs.Sections.{Section, setting, sections, sectionAt, shapeOf, countOf, contentOf, after, hasWrong, sectionReply, orElse, sectionsReply, startOf}
+use Rattle.image.specs.Sections.{Section, setting, sections, sectionAt, shapeOf, countOf, contentOf, isMissing, after, hasWrong, sectionReply, orElse, sectionsReply, startOf}
 use Rattle.image.specs.Reading.{vlOf, sectionsOf}
 
 -- ---- a section by its number
 
 module _ (vl i : ℕ) where
   module _ (r : Shape) where
-    pub settings-shape : i ≡ 0 → r ≡ record { lowest = 3; highest = 3; item = 1 } → r ≡ shapeOf (sectionAt (sections vl) i)
+    pub settings-shape : i ≡ 0 → r ≡ record { lowest = 3; highest = 3; item = 1; optional = false } → r ≡ shapeOf (sectionAt (sections vl) i)
     unfolding sections
     settings-shape e h = rw e h
 
-    pub x-shape : i ≡ 1 → r ≡ record { lowest = 31; highest = 31; item = 8 } → r ≡ shapeOf (sectionAt (sections vl) i)
+    pub x-shape : i ≡ 1 → r ≡ record { lowest = 31; highest = 31; item = 8; optional = false } → r ≡ shapeOf (sectionAt (sections vl) i)
     unfolding sections
     x-shape e h = rw e h
 
-    pub p-shape : i ≡ 2 → r ≡ record { lowest = 16; highest = 16; item = vl / 64 } → r ≡ shapeOf (sectionAt (sections vl) i)
+    pub p-shape : i ≡ 2 → r ≡ record { lowest = 16; highest = 16; item = vl / 64; optional = false } → r ≡ shapeOf (sectionAt (sections vl) i)
     unfolding sections
     p-shape e h = rw e h
 
-    pub flags-shape : i ≡ 3 → r ≡ record { lowest = 4; highest = 4; item = 1 } → r ≡ shapeOf (sectionAt (sections vl) i)
+    pub flags-shape : i ≡ 4 → r ≡ record { lowest = 4; highest = 4; item = 1; optional = false } → r ≡ shapeOf (sectionAt (sections vl) i)
     unfolding sections
     flags-shape e h = rw e h
 
-  pub words-shape : i ≡ 4 → _≡_ {A = Shape} (record { lowest = 0; highest = 4096; item = 4 }) (shapeOf (sectionAt (sections vl) i))
+  pub ffr-shape : i ≡ 3 → _≡_ {A = Shape} (record { lowest = 1; highest = 1; item = vl / 64; optional = true }) (shapeOf (sectionAt (sections vl) i))
+  unfolding sections
+  ffr-shape e = rw e
+
+  pub words-shape : i ≡ 5 → _≡_ {A = Shape} (record { lowest = 0; highest = 4096; item = 4; optional = false }) (shapeOf (sectionAt (sections vl) i))
   unfolding sections
   words-shape e = rw e
 
-pub past-shape : (vl i : ℕ) (r : Shape) → (i ≡ 0 → ⊥) → (i ≡ 1 → ⊥) → (i ≡ 2 → ⊥) → (i ≡ 3 → ⊥) → (i ≡ 4 → ⊥) → r ≡ record { lowest = 0; highest = 0; item = 0 }
-    → r ≡ shapeOf (sectionAt (sections vl) i)
+pub past-shape : (vl i : ℕ) (r : Shape) → (i ≡ 0 → ⊥) → (i ≡ 1 → ⊥) → (i ≡ 2 → ⊥) → (i ≡ 3 → ⊥) → (i ≡ 4 → ⊥) → (i ≡ 5 → ⊥)
+    → r ≡ record { lowest = 0; highest = 0; item = 0; optional = false } → r ≡ shapeOf (sectionAt (sections vl) i)
 unfolding sections
-past-shape vl zero r a b c d e h = absurd (a refl)
-past-shape vl (suc zero) r a b c d e h = absurd (b refl)
-past-shape vl (suc (suc zero)) r a b c d e h = absurd (c refl)
-past-shape vl (suc (suc (suc zero))) r a b c d e h = absurd (d refl)
-past-shape vl (suc (suc (suc (suc zero)))) r a b c d e h = absurd (e refl)
-past-shape vl (suc (suc (suc (suc (suc i))))) r a b c d e h = h
+past-shape vl zero r a b c d e f h = absurd (a refl)
+past-shape vl (suc zero) r a b c d e f h = absurd (b refl)
+past-shape vl (suc (suc zero)) r a b c d e f h = absurd (c refl)
+past-shape vl (suc (suc (suc zero))) r a b c d e f h = absurd (d refl)
+past-shape vl (suc (suc (suc (suc zero)))) r a b c d e f h = absurd (e refl)
+past-shape vl (suc (suc (suc (suc (suc zero))))) r a b c d e f h = absurd (f refl)
+past-shape vl (suc (suc (suc (suc (suc (suc i)))))) r a b c d e f h = h
 
 pub setting-byte : (vl i place b : ℕ) (t : Bool) → i ≡ 0 → t ≡ setting vl place b → t ≡ sectionAt (sections vl) i .allowed place b
 unfolding sections
 setting-byte vl i place b t e h = rw e h
 
-pub flag-byte : (vl i place b : ℕ) → i ≡ 3 → leb b 1 ≡ sectionAt (sections vl) i .allowed place b
+pub flag-byte : (vl i place b : ℕ) → i ≡ 4 → leb b 1 ≡ sectionAt (sections vl) i .allowed place b
 unfolding sections
 flag-byte vl i place b e = rw e
 
-pub any-byte : (vl i place b : ℕ) → (i ≡ 0 → ⊥) → (i ≡ 3 → ⊥) → true ≡ sectionAt (sections vl) i .allowed place b
+pub any-byte : (vl i place b : ℕ) → (i ≡ 0 → ⊥) → (i ≡ 4 → ⊥) → true ≡ sectionAt (sections vl) i .allowed place b
 unfolding sections
 any-byte vl zero place b h k = absurd (h refl)
 any-byte vl (suc zero) place b h k = refl
 any-byte vl (suc (suc zero)) place b h k = refl
-any-byte vl (suc (suc (suc zero))) place b h k = absurd (k refl)
-any-byte vl (suc (suc (suc (suc zero)))) place b h k = refl
-any-byte vl (suc (suc (suc (suc (suc i))))) place b h k = refl
+any-byte vl (suc (suc (suc zero))) place b h k = refl
+any-byte vl (suc (suc (suc (suc zero)))) place b h k = absurd (k refl)
+any-byte vl (suc (suc (suc (suc (suc zero))))) place b h k = refl
+any-byte vl (suc (suc (suc (suc (suc (suc i)))))) place b h k = refl
 
 pub length-byte : (vl place b w : ℕ) (t : Bool) → place ≡ 0 → w ≡ b → t ≡ settingsAllowed (128 * w) 0 → t ≡ setting vl place b
 unfolding setting
@@ -96,9 +102,10 @@ unfolding sections
 item-most vl zero h = lit≤ tt
 item-most vl (suc zero) h = lit≤ tt
 item-most vl (suc (suc zero)) h = omega arith
-item-most vl (suc (suc (suc zero))) h = lit≤ tt
+item-most vl (suc (suc (suc zero))) h = omega arith
 item-most vl (suc (suc (suc (suc zero)))) h = lit≤ tt
-item-most vl (suc (suc (suc (suc (suc i))))) h = lit≤ tt
+item-most vl (suc (suc (suc (suc (suc zero))))) h = lit≤ tt
+item-most vl (suc (suc (suc (suc (suc (suc i)))))) h = lit≤ tt
 
 pub high-most : (vl i : ℕ) → sectionAt (sections vl) i .highest ≤ 4096
 unfolding sections
@@ -107,7 +114,8 @@ high-most vl (suc zero) = lit≤ tt
 high-most vl (suc (suc zero)) = lit≤ tt
 high-most vl (suc (suc (suc zero))) = lit≤ tt
 high-most vl (suc (suc (suc (suc zero)))) = lit≤ tt
-high-most vl (suc (suc (suc (suc (suc i))))) = lit≤ tt
+high-most vl (suc (suc (suc (suc (suc zero))))) = lit≤ tt
+high-most vl (suc (suc (suc (suc (suc (suc i)))))) = lit≤ tt
 
 -- the content of a section fits a number, whatever its count
 pub content-fits : (vl i n k : ℕ) (shape : Shape) → vl ≤ 32640 → shape ≡ shapeOf (sectionAt (sections vl) i) → n ≤ k → n * shape .item ≤ k * 510
@@ -119,8 +127,28 @@ content-most vl i n shape h e l = content-fits vl i n 4096 shape h e (le-trans l
 pub count-lt : (rest : List ℕ) → ((i : ℕ) → Fits w8 (getD rest i 0)) → countOf rest < 4294967296
 count-lt rest h = value-below 4 (take 4 rest) (omega (arith, length-take 4 rest)) (bytes-take 4 rest (bytes-of rest h))
 
-pub after-is : (s : Section) (shape : Shape) (rest past : List ℕ) (n : ℕ) → past ≡ drop (4 + n * shape .item) rest → shape ≡ shapeOf s → n ≡ countOf rest → past ≡ after s rest
-after-is s shape rest past n e es en = rw (e, es, en)
+-- ---- whether it is missing, and what follows it
+
+pub missing-is : (s : Section) (shape : Shape) (rest : List ℕ) (n : ℕ) (t : Bool) → t ≡ (shape .optional && eqb n 4) → shape ≡ shapeOf s → n ≡ countOf rest → t ≡ isMissing s rest
+missing-is s shape rest n t e es en = rw (e, es, en)
+
+module _ (s : Section) (rest : List ℕ) (t : Bool) (e : t ≡ isMissing s rest) where
+  pub after-missing : t ≡ true → rest ≡ after s rest
+  after-missing h = rw (← e, h)
+
+  pub after-is : (shape : Shape) (past : List ℕ) (n : ℕ) → t ≡ false → past ≡ drop (4 + n * shape .item) rest → shape ≡ shapeOf s → n ≡ countOf rest → past ≡ after s rest
+  after-is shape past n h p es en = rw (p, es, en, ← e, h)
+
+-- how many bytes it has: none if it is missing
+abbrev pub taken : Section → List ℕ → ℕ
+taken s rest = pick (isMissing s rest) 0 (4 + countOf rest * s .item)
+
+pub after-taken : (s : Section) (rest : List ℕ) → after s rest ≡ drop (taken s rest) rest
+after-taken s rest = go (isMissing s rest)
+  where
+    go : (t : Bool) → pick t rest (drop (4 + countOf rest * s .item) rest) ≡ drop (pick t 0 (4 + countOf rest * s .item)) rest
+    go true = refl
+    go false = refl
 
 -- ---- its content, byte by byte
 
@@ -172,7 +200,14 @@ module _ (s : Section) (rest : List ℕ) where
   unfolding sectionReply
   fault-cut h = rw (lt-ltb _ _ h)
 
-  module _ (shape : Shape) (n : ℕ) (es : shape ≡ shapeOf s) (en : n ≡ countOf rest) (h : 4 ≤ length rest) where
+  pub fault-missing : (t : Bool) → t ≡ isMissing s rest → t ≡ true → 4 ≤ length rest → R.Done ≡ sectionReply s rest
+  unfolding sectionReply
+  fault-missing t et m h = rw (le-ltb _ _ h, ← et, m)
+
+  module _ (shape : Shape) (n : ℕ) (m : Bool) (em : m ≡ isMissing s rest) (no : m ≡ false) (es : shape ≡ shapeOf s) (en : n ≡ countOf rest) (h : 4 ≤ length rest) where
+    there : isMissing s rest ≡ false
+    there = sym em ∙ no
+
     low : s .lowest ≡ shape .lowest
     low = sym (ap (λ (x : Shape). x .lowest) es)
 
@@ -184,28 +219,29 @@ module _ (s : Section) (rest : List ℕ) where
 
     pub fault-low : n < shape .lowest → R.NotAllowed ≡ sectionReply s rest
     unfolding sectionReply
-    fault-low l = rw (← en, low, le-ltb _ _ h, lt-ltb _ _ l)
+    fault-low l = rw (there, ← en, low, le-ltb _ _ h, lt-ltb _ _ l)
 
     pub fault-high : shape .lowest ≤ n → shape .highest < n → R.NotAllowed ≡ sectionReply s rest
     unfolding sectionReply
-    fault-high l g = rw (← en, low, high, le-ltb _ _ h, le-ltb _ _ l, lt-ltb _ _ g)
+    fault-high l g = rw (there, ← en, low, high, le-ltb _ _ h, le-ltb _ _ l, lt-ltb _ _ g)
 
     module _ (l : shape .lowest ≤ n) (g : n ≤ shape .highest) where
       pub fault-short : length rest < 4 + n * shape .item → R.ImageCut ≡ sectionReply s rest
       unfolding sectionReply
-      fault-short k = rw (← en, low, high, bytes, le-ltb _ _ h, le-ltb _ _ l, le-ltb _ _ g, lt-ltb _ _ k)
+      fault-short k = rw (there, ← en, low, high, bytes, le-ltb _ _ h, le-ltb _ _ l, le-ltb _ _ g, lt-ltb _ _ k)
 
       module _ (content : List ℕ) (t : Bool) (k : 4 + n * shape .item ≤ length rest) (ec : content ≡ contentOf rest) (et : t ≡ hasWrong s content (n * shape .item)) where
         pub fault-wrong : t ≡ true → R.NotAllowed ≡ sectionReply s rest
         unfolding sectionReply
-        fault-wrong w = rw (← en, low, high, bytes, le-ltb _ _ h, le-ltb _ _ l, le-ltb _ _ g, le-ltb _ _ k, ← ec, ← et, w)
+        fault-wrong w = rw (there, ← en, low, high, bytes, le-ltb _ _ h, le-ltb _ _ l, le-ltb _ _ g, le-ltb _ _ k, ← ec, ← et, w)
 
         pub fault-none : t ≡ false → R.Done ≡ sectionReply s rest
         unfolding sectionReply
-        fault-none w = rw (← en, low, high, bytes, le-ltb _ _ h, le-ltb _ _ l, le-ltb _ _ g, le-ltb _ _ k, ← ec, ← et, w)
+        fault-none w = rw (there, ← en, low, high, bytes, le-ltb _ _ h, le-ltb _ _ l, le-ltb _ _ g, le-ltb _ _ k, ← ec, ← et, w)
 
--- a section without a fault
+-- a section that is there, without a fault
 pub record Whole (s : Section) (rest : List ℕ) : Type 0 where
+  pub present : isMissing s rest ≡ false
   pub atLeast : s .lowest ≤ countOf rest
   pub atMost : countOf rest ≤ s .highest
   pub within : 4 + countOf rest * s .item ≤ length rest
@@ -215,15 +251,16 @@ pub neither : (a b : Bool) → (a || b) ≡ false → (a ≡ false) × (b ≡ fa
 neither false b e = (refl, e)
 neither true b e = never refl e
 
-pub whole : (s : Section) (rest : List ℕ) → sectionReply s rest ≡ R.Done → Whole s rest
+pub whole : (s : Section) (rest : List ℕ) → isMissing s rest ≡ false → sectionReply s rest ≡ R.Done → Whole s rest
 unfolding sectionReply
-whole s rest e =
+whole s rest m e =
     let a = not-refused (ltb (length rest) 4) R.ImageCut _ (lit< tt) e in
-    let b = not-refused (ltb (countOf rest) (s .lowest) || ltb (s .highest) (countOf rest)) R.NotAllowed _ (lit< tt) (a .1) in
+    let b = not-refused (ltb (countOf rest) (s .lowest) || ltb (s .highest) (countOf rest)) R.NotAllowed _ (lit< tt) (rw m at (a .1)) in
     let c = not-refused (ltb (length rest) (4 + countOf rest * s .item)) R.ImageCut _ (lit< tt) (b .1) in
     let d = not-refused (hasWrong s (contentOf rest) (countOf rest * s .item)) R.NotAllowed R.Done (lit< tt) (c .1) in
     let f = neither (ltb (countOf rest) (s .lowest)) (ltb (s .highest) (countOf rest)) (b .0) in
     record {
+      present = m;
       atLeast = ltb-false _ _ (f .0);
       atMost = ltb-false _ _ (f .1);
       within = ltb-false _ _ (c .0);
@@ -234,7 +271,15 @@ pub unfaulted : (s : Section) (rest : List ℕ) → Whole s rest → sectionRepl
 unfolding sectionReply
 unfaulted s rest w =
     let h : 4 ≤ length rest = omega (arith, w .within) in
-    rw (le-ltb _ _ h, le-ltb _ _ (w .atLeast), le-ltb _ _ (w .atMost), le-ltb _ _ (w .within), some-no (λ i. not (s .allowed i (getD (contentOf rest) i 0))) _ (λ i l. ap not (w .right i l)))
+    rw (w .present, le-ltb _ _ h, le-ltb _ _ (w .atLeast), le-ltb _ _ (w .atMost), le-ltb _ _ (w .within), some-no (λ i. not (s .allowed i (getD (contentOf rest) i 0))) _ (λ i l. ap not (w .right i l)))
+
+-- a section without a fault, there or missing, has no more bytes than its highest count
+pub taken-most : (s : Section) (rest : List ℕ) → sectionReply s rest ≡ R.Done → taken s rest ≤ 4 + s .highest * s .item
+taken-most s rest e = go (isMissing s rest) refl
+  where
+    go : (t : Bool) → isMissing s rest ≡ t → pick t 0 (4 + countOf rest * s .item) ≤ 4 + s .highest * s .item
+    go true m = omega arith
+    go false m = omega (arith, mul-le-mul-right (s .item) (whole s rest m e .atMost))
 
 -- ---- all sections, one after the other
 
@@ -250,13 +295,13 @@ pub reply-left : (image rest : List ℕ) (vl i : ℕ) (f : Reply) → vl ≡ vlO
     → f ≡ sectionsReply (drop i (sections vl)) rest → f ≡ sectionsReply (sectionsOf image) image
 reply-left image rest vl i f v e h = h ∙ e ∙ ap (λ (x : ℕ). sectionsReply (sections x) image) v
 
-pub sections-five : (vl : ℕ) → length (sections vl) ≡ 5
+pub sections-six : (vl : ℕ) → length (sections vl) ≡ 6
 unfolding sections
-sections-five vl = refl
+sections-six vl = refl
 
-module _ (vl : ℕ) (i : ℕ) (l : i < 5) where
+module _ (vl : ℕ) (i : ℕ) (l : i < 6) where
   pub here : drop i (sections vl) ≡ sectionAt (sections vl) i ∷ drop (suc i) (sections vl)
-  here = drop-cons (sections vl) i _ (rw sections-five l)
+  here = drop-cons (sections vl) i _ (rw sections-six l)
 
   pub refused-here : (rest : List ℕ) (f : Reply) (t : Bool) → f ≡ sectionReply (sectionAt (sections vl) i) rest → t ≡ isDone f → not t ≡ true
       → f ≡ sectionsReply (drop i (sections vl)) rest
@@ -269,7 +314,7 @@ module _ (vl : ℕ) (i : ℕ) (l : i < 5) where
   unfolding sectionsReply
   passed-on image rest past f t e d h p k = rw (add-one, p) (no-fault f _ _ t e d h) ∙ sym (ap (λ (l : List Section). sectionsReply l rest) here) ∙ k
 
-module _ (vl : ℕ) (i : ℕ) (l : 5 ≤ i) (rest : List ℕ) where
+module _ (vl : ℕ) (i : ℕ) (l : 6 ≤ i) (rest : List ℕ) where
   none-left : (k : ℕ) (ss : List Section) → length ss ≤ k → drop k ss ≡ []
   none-left zero [] h = refl
   none-left zero (s ∷ ss) h = absurd (omega arith)
@@ -278,8 +323,8 @@ module _ (vl : ℕ) (i : ℕ) (l : 5 ≤ i) (rest : List ℕ) where
 
   pub bytes-left : 0 < length rest → R.TrailingBytes ≡ sectionsReply (drop i (sections vl)) rest
   unfolding sectionsReply
-  bytes-left h = rw (none-left i (sections vl) (rw sections-five l), lt-ltb _ _ h)
+  bytes-left h = rw (none-left i (sections vl) (rw sections-six l), lt-ltb _ _ h)
 
   pub no-bytes-left : length rest ≤ 0 → R.Done ≡ sectionsReply (drop i (sections vl)) rest
   unfolding sectionsReply
-  no-bytes-left h = rw (none-left i (sections vl) (rw sections-five l), le-ltb _ _ h)
+  no-bytes-left h = rw (none-left i (sections vl) (rw sections-six l), le-ltb _ _ h)

@@ -5,24 +5,26 @@ use mathlib.Core.Path.{_≡_, refl, sym, ap, _∙_}
 use Prim.Native.Nat.{ℕ, zero, suc, _+_, _-_, _*_, _/_, _≤_, _<_}
 use native.Mathlib.Omega.{arith}
 use lib.Dec.{lit≤}
-use lib.ListN.{length, drop, length-append}
-use lib.Seq.{sets}
+use lib.ListN.{length, take, drop, getD, length-append}
+use lib.Seq.{sets, length-take-le, drop-cons, getD-take, getD-drop}
 use borrow.Author.Tests.{lt-ltb, le-ltb, ne-eqb}
 use Rattle.bits.specs.Choice.{pick, digit}
 use Rattle.bits.proofs.Searches.{never}
 use Rattle.octets.specs.Bytes.{le, joined}
-use Rattle.octets.proofs.Bytes.{length-le, length-joined, sets-append, sets-over}
+use Rattle.octets.proofs.Bytes.{length-le, length-joined, put-turn, sets-append, sets-over}
 use Rattle.predicates.specs.declared.Flags.{Flags}
+use Rattle.predicates.specs.declared.Predicate.{Predicate}
 use Rattle.replies.specs.declared.Reply.{Reply}
 use Rattle.replies.specs.declared.Reply.the-variants as R
 use Rattle.replies.specs.Reply.{numberOf}
 use Rattle.registers.specs.declared.State.{State}
 use Rattle.registers.specs.Legal.{legal, illegal}
+use Rattle.registers.specs.State.{allFalse, ffr, readP}
 use Rattle.registers.proofs.Legality.{legal-has, quads}
 use Rattle.registers.proofs.Registers.{Sized}
 use Rattle.image.specs.declared.Written.{Written}
 use Rattle.image.specs.declared.sections.Shape.{Shape}
-use Rattle.image.specs.Sections.{sections, sectionAt, shapeOf, bytesOf, imageLength}
+use Rattle.image.specs.Sections.{sections, sectionAt, shapeOf, bytesOf, imageLength, largestImage}
 use Rattle.image.specs.Image.{section, settingItems, predicateBytes, flagItems, imageOf}
 use Rattle.image.specs.Writing.{writeReply, writtenOf, bufferAfter}
 use Rattle.image.proofs.PredicateBytes.{length-bytes}
@@ -33,7 +35,7 @@ use Rattle.image.proofs.SectionLaws.{here}
 abbrev pub lengthLeft : ℕ → ℕ → ℕ → ℕ
 lengthLeft vl words i = bytesOf (λ s. s .lowest) (drop i (sections vl)) + 4 * words
 
-pub length-start : (vl words : ℕ) → 4 * words ≡ lengthLeft vl words 5
+pub length-start : (vl words : ℕ) → 4 * words ≡ lengthLeft vl words 6
 unfolding sections bytesOf
 length-start vl words = omega arith
 
@@ -41,7 +43,7 @@ pub length-end : (vl words i n : ℕ) → n ≡ lengthLeft vl words i → i ≤ 
 unfolding imageLength
 length-end vl words i n e h = let z : i ≡ 0 = omega arith in e ∙ ap (lengthLeft vl words) z
 
-pub length-turn : (vl words i n : ℕ) (shape : Shape) → n ≡ lengthLeft vl words i → 0 < i → i ≤ 5 → shape ≡ shapeOf (sectionAt (sections vl) (i - 1))
+pub length-turn : (vl words i n : ℕ) (shape : Shape) → n ≡ lengthLeft vl words i → 0 < i → i ≤ 6 → shape ≡ shapeOf (sectionAt (sections vl) (i - 1))
     → 4 + shape .lowest * shape .item + n ≡ lengthLeft vl words (i - 1)
 unfolding bytesOf
 length-turn vl words i n shape e h l es =
@@ -52,6 +54,11 @@ length-turn vl words i n shape e h l es =
     let m : shape .lowest * shape .item ≡ sectionAt (sections vl) (i - 1) .lowest * sectionAt (sections vl) (i - 1) .item = ap (λ (x : Shape). x .lowest * x .item) es in
     omega arith
 
+-- The largest image has 17,207 bytes.
+pub largest-is : largestImage ≡ 17207
+unfolding imageLength sections bytesOf
+largest-is = refl
+
 -- the least that a section has, up to VL 2048
 pub least-most : (vl i : ℕ) (shape : Shape) → vl ≤ 2048 → shape ≡ shapeOf (sectionAt (sections vl) i) → shape .lowest * shape .item ≤ 992
 unfolding sections
@@ -61,9 +68,10 @@ least-most vl i shape h e = rw e (go i)
     go zero = lit≤ tt
     go (suc zero) = lit≤ tt
     go (suc (suc zero)) = omega arith
-    go (suc (suc (suc zero))) = lit≤ tt
-    go (suc (suc (suc (suc zero)))) = omega arith
-    go (suc (suc (suc (suc (suc i))))) = omega arith
+    go (suc (suc (suc zero))) = omega arith
+    go (suc (suc (suc (suc zero)))) = lit≤ tt
+    go (suc (suc (suc (suc (suc zero))))) = omega arith
+    go (suc (suc (suc (suc (suc (suc i)))))) = omega arith
 
 -- ---- the sections as they are written
 
@@ -75,6 +83,14 @@ section-start g l m at n items e h = rw (e, h, sets-append l at (le 4 (length it
 pub section-length : {A : Type 0} (g : A → List ℕ) (k : ℕ) → ((x : A) → length (g x) ≡ k) → (items : List A) → length (section g items) ≡ 4 + length items * k
 unfolding section
 section-length g k len items = simp (length-append, length-le, length-joined g k len items)
+
+-- a turn of the loop that writes the n predicates from `first` on
+pub chosen-turn : (size : ℕ) (l m : List ℕ) (at i : ℕ) (p : List Predicate) (first n : ℕ) (d : Predicate) → i < n → i < length (take n (drop first p))
+    → m ≡ sets l (at + i * size) (predicateBytes size (getD p (first + i) d))
+    → sets m (at + (i + 1) * size) (joined (predicateBytes size) (drop (i + 1) (take n (drop first p)))) ≡ sets l (at + i * size) (joined (predicateBytes size) (drop i (take n (drop first p))))
+chosen-turn size l m at i p first n d h k e =
+    put-turn (predicateBytes size) size (length-bytes size) l m at i (take n (drop first p)) d k
+    (e ∙ ap (λ (q : Predicate). sets l (at + i * size) (predicateBytes size q)) (sym (getD-take n (drop first p) i d h ∙ getD-drop first p i d)))
 
 pub three-items : (s : State) (t : ℕ) → t ≡ digit (s .access) → s .vl / 128 ∷ s .level ∷ t ∷ [] ≡ settingItems s
 three-items s t e = rw e
@@ -98,8 +114,11 @@ module _ (s : State) (ok : Sized s) (ws : List ℕ) where
   pub length-x : length (section (le 8) (s .x)) ≡ 4 + 31 * 8
   length-x = section-length (le 8) 8 (length-le 8) (s .x) ∙ rw (ok .xs)
 
-  pub length-p : length (section (predicateBytes size) (s .p)) ≡ 4 + 16 * size
-  length-p = section-length (predicateBytes size) size (length-bytes size) (s .p) ∙ rw (ok .ps)
+  pub length-p : length (section (predicateBytes size) (take ffr (s .p))) ≡ 4 + 16 * size
+  length-p = section-length (predicateBytes size) size (length-bytes size) (take ffr (s .p)) ∙ rw (length-take-le ffr (s .p) (omega (arith, ok .ps)))
+
+  pub length-ffr : length (section (predicateBytes size) (readP s ffr ∷ [])) ≡ 4 + 1 * size
+  length-ffr = section-length (predicateBytes size) size (length-bytes size) (readP s ffr ∷ [])
 
   pub length-flags : length (section (le 1) (flagItems (s .flags))) ≡ 4 + 4 * 1
   length-flags = section-length (le 1) 1 (length-le 1) (flagItems (s .flags))
@@ -108,35 +127,42 @@ module _ (s : State) (ok : Sized s) (ws : List ℕ) where
   length-words = section-length (le 4) 4 (length-le 4) ws
 
   -- section by section
-  pub image-bytes : length (imageOf s ws) ≡ (4 + 3 * 1) + ((4 + 31 * 8) + ((4 + 16 * size) + ((4 + 4 * 1) + (4 + length ws * 4))))
+  pub image-bytes : length (imageOf s ws) ≡ (4 + 3 * 1) + ((4 + 31 * 8) + ((4 + 16 * size) + ((4 + 1 * size) + ((4 + 4 * 1) + (4 + length ws * 4)))))
   unfolding imageOf
-  image-bytes = simp (length-append, length-settings, length-x, length-p, length-flags, length-words) (omega arith)
+  image-bytes = simp (length-append, length-settings, length-x, length-p, length-ffr, length-flags, length-words) (omega arith)
 
   -- the image is as long as its sections say
   pub image-length : length (imageOf s ws) ≡ imageLength (s .vl) (length ws)
   unfolding imageLength sections bytesOf
   image-length = image-bytes ∙ omega arith
 
+  -- the last predicate, as the code cuts it out
+  last : take 1 (drop ffr (s .p)) ≡ readP s ffr ∷ []
+  last = ap (take 1) (drop-cons (s .p) ffr allFalse (omega (arith, ok .ps)))
+
   -- the sections written one after the other are the image
-  pub sections-put : (settings flags l a b c d e : List ℕ) (x-at p-at flags-at words-at : ℕ) → settings ≡ settingItems s → flags ≡ flagItems (s .flags)
+  pub sections-put : (settings flags l a b c d e g : List ℕ) (x-at p-at ffr-at flags-at words-at : ℕ) → settings ≡ settingItems s → flags ≡ flagItems (s .flags)
       → a ≡ sets l 0 (section (le 1) settings) → x-at ≡ 0 + (4 + length settings * 1)
       → b ≡ sets a x-at (section (le 8) (s .x)) → p-at ≡ x-at + (4 + length (s .x) * 8)
-      → c ≡ sets b p-at (section (predicateBytes size) (s .p)) → flags-at ≡ p-at + (4 + 16 * size)
-      → d ≡ sets c flags-at (section (le 1) flags) → words-at ≡ flags-at + (4 + length flags * 1)
-      → e ≡ sets d words-at (section (le 4) ws)
-      → e ≡ sets l 0 (imageOf s ws)
+      → c ≡ sets b p-at (section (predicateBytes size) (take ffr (s .p))) → ffr-at ≡ p-at + (4 + 16 * size)
+      → d ≡ sets c ffr-at (section (predicateBytes size) (take 1 (drop ffr (s .p)))) → flags-at ≡ ffr-at + (4 + 1 * size)
+      → e ≡ sets d flags-at (section (le 1) flags) → words-at ≡ flags-at + (4 + length flags * 1)
+      → g ≡ sets e words-at (section (le 4) ws)
+      → g ≡ sets l 0 (imageOf s ws)
   unfolding imageOf
-  sections-put settings flags l a b c d e x-at p-at flags-at words-at es ef ea na eb nb ec nc ed nd ee =
+  sections-put settings flags l a b c d e g x-at p-at ffr-at flags-at words-at es ef ea na eb nb ec nc ed nd ee ne eg =
       let s1 : List ℕ = section (le 1) (settingItems s) in
       let s2 : List ℕ = section (le 8) (s .x) in
-      let s3 : List ℕ = section (predicateBytes size) (s .p) in
-      let s4 : List ℕ = section (le 1) (flagItems (s .flags)) in
-      let s5 : List ℕ = section (le 4) ws in
-      ee
-      ∙ sym (more l a 0 x-at s1 (s2 ++ (s3 ++ (s4 ++ s5))) (rw es at ea) (rw (na, es, length-settings))
-      ∙ more a b x-at p-at s2 (s3 ++ (s4 ++ s5)) eb (rw (nb, length-x, ok .xs))
-      ∙ more b c p-at flags-at s3 (s4 ++ s5) ec (rw (nc, length-p))
-      ∙ more c d flags-at words-at s4 s5 (rw ef at ed) (rw (nd, ef, length-flags)))
+      let s3 : List ℕ = section (predicateBytes size) (take ffr (s .p)) in
+      let s4 : List ℕ = section (predicateBytes size) (readP s ffr ∷ []) in
+      let s5 : List ℕ = section (le 1) (flagItems (s .flags)) in
+      let s6 : List ℕ = section (le 4) ws in
+      eg
+      ∙ sym (more l a 0 x-at s1 (s2 ++ (s3 ++ (s4 ++ (s5 ++ s6)))) (rw es at ea) (rw (na, es, length-settings))
+      ∙ more a b x-at p-at s2 (s3 ++ (s4 ++ (s5 ++ s6))) eb (rw (nb, length-x, ok .xs))
+      ∙ more b c p-at ffr-at s3 (s4 ++ (s5 ++ s6)) ec (rw (nc, length-p))
+      ∙ more c d ffr-at flags-at s4 (s5 ++ s6) (rw last at ed) (rw (nd, length-ffr))
+      ∙ more d e flags-at words-at s5 s6 (rw ef at ee) (rw (ne, ef, length-flags)))
 
 -- ---- the replies, in their order
 

@@ -1,9 +1,9 @@
 -- What reading an image answers. `room` is the length of the lent list.
 use Prim.Native.Nat.{ℕ, _*_, _/_}
-use mathlib.Core.Bool.{false}
-use mathlib.Core.List.{List}
+use mathlib.Core.Bool.{Bool, false}
+use mathlib.Core.List.{List, [], _∷_, _++_}
 use lib.Dec.{ltb, eqb}
-use lib.ListN.{length, getD, replicate}
+use lib.ListN.{length, take, drop, getD, replicate}
 use Rattle.bits.specs.Bits.{testBit}
 use Rattle.bits.specs.Choice.{pick}
 use Rattle.octets.specs.Bytes.{value, parts, over}
@@ -14,9 +14,10 @@ use Rattle.replies.specs.declared.Reply.{Reply}
 use Rattle.replies.specs.declared.Reply.the-variants as R
 use Rattle.replies.specs.Reply.{isDone}
 use Rattle.registers.specs.declared.State.{State}
-use Rattle.registers.specs.State.{allFalse, made}
+use Rattle.registers.specs.State.{allFalse, ffr, registerCount, made}
+use Rattle.image.specs.Image.{section, predicateBytes}
 use Rattle.image.specs.declared.Reading.{Reading}
-pub use Rattle.image.specs.Sections.{Section, sections, countOf, contentOf, orElse, sectionsReply, startOf}
+pub use Rattle.image.specs.Sections.{Section, sections, sectionAt, countOf, contentOf, isMissing, orElse, sectionsReply, startOf, bytesOf}
 
 -- ---- where an image's sections begin
 
@@ -33,11 +34,18 @@ xAt image = startOf (sectionsOf image) 1 image
 abbrev pub predicatesAt : List ℕ → List ℕ
 predicatesAt image = startOf (sectionsOf image) 2 image
 
+abbrev pub ffrAt : List ℕ → List ℕ
+ffrAt image = startOf (sectionsOf image) 3 image
+
 abbrev pub flagsAt : List ℕ → List ℕ
-flagsAt image = startOf (sectionsOf image) 3 image
+flagsAt image = startOf (sectionsOf image) 4 image
 
 abbrev pub wordsAt : List ℕ → List ℕ
-wordsAt image = startOf (sectionsOf image) 4 image
+wordsAt image = startOf (sectionsOf image) 5 image
+
+-- an old image: its FFR section is missing
+abbrev pub isOld : List ℕ → Bool
+isOld image = isMissing (sectionAt (sectionsOf image) 3) (ffrAt image)
 
 -- ---- the reply
 
@@ -54,19 +62,29 @@ flagsIn content = record { n = eqb (getD content 0 0) 1; z = eqb (getD content 1
 unfoldable pub predicateOf : List ℕ → Predicate
 predicateOf bs = pack (testBit (value bs))
 
+-- FFR; in an old image all false
+unfoldable pub ffrIn : List ℕ → Predicate
+ffrIn image = pick (isOld image) allFalse (predicateOf (take (vlOf image / 64) (contentOf (ffrAt image))))
+
 unfoldable pub stateOf : List ℕ → State
 stateOf image =
     made (vlOf image) (getD (contentOf image) 1 0) (eqb (getD (contentOf image) 2 0) 1) (flagsIn (contentOf (flagsAt image))) (parts value 8 31 (contentOf (xAt image)))
-    (parts predicateOf (vlOf image / 64) 16 (contentOf (predicatesAt image)))
+    (parts predicateOf (vlOf image / 64) ffr (contentOf (predicatesAt image)) ++ (ffrIn image ∷ []))
 
 unfoldable pub wordsOf : List ℕ → List ℕ
 wordsOf image = parts value 4 (countOf (wordsAt image)) (contentOf (wordsAt image))
+
+-- what is written of an image that was read: a new one again, and an old one with an FFR all false after P
+abbrev pub renewed : List ℕ → List ℕ
+renewed image =
+    let before = bytesOf (λ s. s .lowest) (take 3 (sectionsOf image)) in
+    pick (isOld image) (take before image ++ (section (predicateBytes (vlOf image / 64)) (allFalse ∷ []) ++ drop before image)) image
 
 -- ---- the answer
 
 -- the state that a refusal carries: VL 128, all else zero
 unfoldable pub blank : State
-blank = made 128 0 false (record { n = false; z = false; c = false; v = false }) (replicate 31 0) (replicate 16 allFalse)
+blank = made 128 0 false (record { n = false; z = false; c = false; v = false }) (replicate 31 0) (replicate registerCount allFalse)
 
 unfoldable pub readOf : ℕ → List ℕ → Reading
 readOf room image =

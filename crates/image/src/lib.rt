@@ -1,9 +1,11 @@
 // The image: a register state and words as bytes, read and written.
 // The reader answers the first section at fault: its count cut 5, its count wrong 6, its content cut 5, its content wrong 6; then 7 for bytes after the last section, then 8 for a lent list that
 // is too short. The writer refuses 4, then 6 for more than 4,096 words, then 8 for a buffer that is too small. A refusal touches neither list nor buffer, and places past what is written stay.
-// Reading what was written gives that state and those words; writing what was read gives the same bytes.
+// An old image has no section for FFR: it is read with FFR all false. The writer writes new images only. Reading what was written gives that state and those words; writing what was read gives
+// the same bytes for a new image, and for an old one the new image of that state and those words.
 ghost use mathlib.Core.Path.{_≡_};
 ghost use lib.ListN.{length};
+ghost use Rattle.image.specs.Sections.{largestImage};
 ghost use Rattle.image.specs.Reading.{readOf, listAfter};
 ghost use Rattle.image.specs.Writing.{writtenOf, bufferAfter};
 use registers::State;
@@ -12,6 +14,16 @@ use replies::Reply;
 mod reader;
 pub mod sections;
 mod writer;
+
+// The most bytes that an image has: a constant, for the lengths of arrays.
+pub const LARGEST: usize = 17207;
+
+// The same, proved to be that.
+pub fn largest() -> usize
+    ensures { λ r. ⌜ r ≡ largestImage ⌝ }
+{
+    LARGEST
+}
 
 pub struct Reading {
     pub reply: Reply,

@@ -1,10 +1,11 @@
 // What reading an image answers: the reply, and what the sections hold.
+ghost use mathlib.Core.List.{[], _∷_, _++_};
 ghost use mathlib.Core.Path.{_≡_};
 ghost use Prim.Native.Nat.{_≤_};
 ghost use lib.ListN.{length};
 ghost use lib.Seq.{sets};
 ghost use Rattle.octets.specs.Bytes.{value, parts};
-ghost use Rattle.image.specs.Reading.{contentOf, sectionsOf, startOf, imageReply, flagsIn, predicateOf, stateOf, blank as blankState};
+ghost use Rattle.image.specs.Reading.{contentOf, sectionsOf, startOf, imageReply, flagsIn, predicateOf, ffrIn, stateOf, blank as blankState};
 use super::sections;
 use predicates::Flags;
 use predicates::Predicate;
@@ -36,7 +37,7 @@ pub fn blank() -> State
         c: false,
         v: false,
     };
-    State::new(128, 0, false, flags, [0; 31], [none; 16])
+    State::new(128, 0, false, flags, [0; 31], [none; registers::PREDICATES])
 }
 
 fn content_of(image: &[u8], section: usize) -> &[u8]
@@ -54,7 +55,8 @@ pub fn state_of(image: &[u8]) -> State
     let access = octets::byte(settings, 2) == 1;
     let flags = flags_of(content_of(image, sections::FLAGS));
     let x = x_of(content_of(image, sections::X));
-    let p = predicates_of(content_of(image, sections::P), (vl / 64) as usize);
+    let size = (vl / 64) as usize;
+    let p = predicates_of(content_of(image, sections::P), size, ffr_of(image));
     State::new(vl, octets::byte(settings, 1), access, flags, x, p)
 }
 
@@ -81,12 +83,23 @@ fn x_of(content: &[u8]) -> [u64; 31]
     x
 }
 
-fn predicates_of(content: &[u8], size: usize) -> [Predicate; 16]
-    requires { ⌜ size ≤ 510 ⌝ }
-    ensures { λ r. ⌜ r ≡ parts predicateOf size 16 (now (content .entry)) ⌝ }
+// FFR, which an old image does not have.
+fn ffr_of(image: &[u8]) -> Predicate
+    ensures { λ r. ⌜ r ≡ ffrIn (now (image .entry)) ⌝ }
 {
-    let none = Predicate::none();
-    let mut p = [none; 16];
+    if sections::is_old(image) {
+        return Predicate { words: [0; 4] };
+    }
+    let size = (sections::vector_length(image) / 64) as usize;
+    predicate_of(octets::first(content_of(image, sections::FFR), size))
+}
+
+// P, and FFR after them.
+fn predicates_of(content: &[u8], size: usize, ffr: Predicate) -> [Predicate; registers::PREDICATES]
+    requires { ⌜ size ≤ 510 ⌝ }
+    ensures { λ r. ⌜ r ≡ parts predicateOf size 16 (now (content .entry)) ++ (ffr ∷ []) ⌝ }
+{
+    let mut p = [ffr; registers::PREDICATES];
     let mut i = 0;
     while i < 16 {
         p[i] = predicate_of(octets::first(octets::after(content, i * size), size));

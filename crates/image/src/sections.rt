@@ -1,8 +1,9 @@
 // The sections of an image as data, by their number: what is allowed in each, where each begins, and the reply to all.
+ghost use mathlib.Core.Bool.{false};
 ghost use mathlib.Core.Path.{_≡_};
 ghost use Prim.Native.Nat.{_≤_, _<_};
-ghost use Rattle.image.specs.Sections.{setting, sections, sectionAt, shapeOf, countOf, after as afterSection, hasWrong, sectionReply, sectionsReply, startOf};
-ghost use Rattle.image.specs.Reading.{vlOf, sectionsOf};
+ghost use Rattle.image.specs.Sections.{setting, sections, sectionAt, shapeOf, countOf, isMissing, after as afterSection, hasWrong, sectionReply, sectionsReply, startOf};
+ghost use Rattle.image.specs.Reading.{vlOf, sectionsOf, isOld};
 use replies::Reply;
 
 // The sections' numbers, in their order.
@@ -12,17 +13,20 @@ pub const X: usize = 1;
 
 pub const P: usize = 2;
 
-pub const FLAGS: usize = 3;
+pub const FFR: usize = 3;
 
-pub const WORDS: usize = 4;
+pub const FLAGS: usize = 4;
+
+pub const WORDS: usize = 5;
 // How many sections there are.
-pub const SECTIONS: usize = 5;
+pub const SECTIONS: usize = 6;
 
-// The range of a section's count, and the bytes of an item.
+// The range of a section's count, the bytes of an item, and whether it may be missing.
 pub struct Shape {
     pub lowest: usize,
     pub highest: usize,
     pub item: usize,
+    pub optional: bool,
 }
 
 // The sections in their order; past the last an empty one.
@@ -38,6 +42,14 @@ pub fn shape_of(section: usize, vl: u64) -> Shape
     if section == P {
         return fixed(16, (vl / 64) as usize);
     }
+    if section == FFR {
+        return Shape {
+            lowest: 1,
+            highest: 1,
+            item: (vl / 64) as usize,
+            optional: true,
+        };
+    }
     if section == FLAGS {
         return fixed(4, 1);
     }
@@ -46,6 +58,7 @@ pub fn shape_of(section: usize, vl: u64) -> Shape
             lowest: 0,
             highest: 4096,
             item: 4,
+            optional: false,
         };
     }
     fixed(0, 0)
@@ -53,12 +66,13 @@ pub fn shape_of(section: usize, vl: u64) -> Shape
 
 // A section of so many items.
 fn fixed(count: usize, item: usize) -> Shape
-    ensures { λ r. ⌜ r ≡ record { lowest = count; highest = count; item = item } ⌝ }
+    ensures { λ r. ⌜ r ≡ record { lowest = count; highest = count; item = item; optional = false } ⌝ }
 {
     Shape {
         lowest: count,
         highest: count,
         item,
+        optional: false,
     }
 }
 
@@ -110,11 +124,29 @@ pub fn count_of(rest: &[u8]) -> usize
     octets::number_at(rest, 0, 4) as usize
 }
 
+// Whether a section is missing: where its count would stand stands that of the flags.
+fn is_missing(section: usize, vl: u64, rest: &[u8]) -> bool
+    ensures { λ r. ⌜ r ≡ isMissing (sectionAt (sections vl) section) (now (rest .entry)) ⌝ }
+{
+    let shape = shape_of(section, vl);
+    shape.optional & (count_of(rest) == 4)
+}
+
+// Whether an image has no FFR.
+pub fn is_old(image: &[u8]) -> bool
+    ensures { λ r. ⌜ r ≡ isOld (now (image .entry)) ⌝ }
+{
+    is_missing(FFR, vector_length(image), start_of(image, FFR))
+}
+
 // What follows a section.
 fn after_section(section: usize, vl: u64, rest: &[u8]) -> &[u8]
     requires { ⌜ vl ≤ 32640 ⌝ }
     ensures { λ r. ⌜ now r ≡ afterSection (sectionAt (sections vl) section) (now (rest .entry)) ⌝ }
 {
+    if is_missing(section, vl, rest) {
+        return rest;
+    }
     let shape = shape_of(section, vl);
     octets::after(rest, 4 + count_of(rest) * shape.item)
 }
@@ -156,13 +188,16 @@ pub fn sections_reply(image: &[u8]) -> Reply
     Reply::Done
 }
 
-// Count cut, count wrong, content cut, content wrong.
+// Count cut; no fault if it is missing; count wrong, content cut, content wrong.
 fn section_reply(section: usize, vl: u64, rest: &[u8]) -> Reply
     requires { ⌜ vl ≤ 32640 ⌝ }
     ensures { λ r. ⌜ r ≡ sectionReply (sectionAt (sections vl) section) (now (rest .entry)) ⌝ }
 {
     if rest.len() < 4 {
         return Reply::ImageCut;
+    }
+    if is_missing(section, vl, rest) {
+        return Reply::Done;
     }
     let shape = shape_of(section, vl);
     let n = count_of(rest);

@@ -2,7 +2,7 @@
 ghost use mathlib.Core.Bool.{true};
 ghost use mathlib.Core.Path.{_≡_};
 ghost use Prim.Native.Nat.{_+_, _*_, _≤_, min};
-ghost use lib.ListN.{length};
+ghost use lib.ListN.{length, take, drop};
 ghost use lib.Seq.{sets};
 ghost use Rattle.bits.specs.Choice.{digit};
 ghost use Rattle.octets.specs.Bytes.{le};
@@ -39,7 +39,9 @@ pub fn put_image(image: &mut [u8], state: State, words: &[u32])
     let x = state.x;
     let p_at = put_numbers(image, x_at, 8, &x);
     let p = state.p;
-    let flags_at = put_predicates(image, p_at, (vl / 64) as usize, p);
+    let size = (vl / 64) as usize;
+    let ffr_at = put_predicates(image, p_at, size, p, 0, 16);
+    let flags_at = put_predicates(image, ffr_at, size, p, 16, 1);
     let f = state.flags;
     let flags = [bit(f.n), bit(f.z), bit(f.c), bit(f.v)];
     let words_at = put_numbers(image, flags_at, 1, &flags);
@@ -81,19 +83,26 @@ fn put_numbers(image: &mut [u8], at: usize, k: usize, numbers: &[u64]) -> usize
     at + 4 + i * k
 }
 
-// P, `size` bytes each.
-fn put_predicates(image: &mut [u8], at: usize, size: usize, p: [Predicate; 16]) -> usize
-    requires { ⌜ (size ≤ 32) × (at + (4 + 16 * size) ≤ length (now image)) ⌝ }
-    ensures { λ r. ⌜ r ≡ at + (4 + 16 * size) ⌝ }
-    ensures { λ r. ⌜ now (image .exit) ≡ sets (now (image .entry)) at (section (predicateBytes size) p) ⌝ }
+// A section of the n predicates from `first` on, `size` bytes each.
+fn put_predicates(
+    image: &mut [u8],
+    at: usize,
+    size: usize,
+    p: [Predicate; registers::PREDICATES],
+    first: usize,
+    n: usize,
+) -> usize
+    requires { ⌜ (size ≤ 32) × ((first + n ≤ 17) × (at + (4 + n * size) ≤ length (now image))) ⌝ }
+    ensures { λ r. ⌜ r ≡ at + (4 + n * size) ⌝ }
+    ensures { λ r. ⌜ now (image .exit) ≡ sets (now (image .entry)) at (section (predicateBytes size) (take n (drop first p))) ⌝ }
 {
-    put_number(image, at, 4, 16);
+    put_number(image, at, 4, n as u64);
     let mut i = 0;
-    while i < 16 {
-        put_predicate(image, at + 4 + i * size, size, p[i]);
+    while i < n {
+        put_predicate(image, at + 4 + i * size, size, p[first + i]);
         i += 1;
     }
-    at + 4 + 16 * size
+    at + 4 + n * size
 }
 
 // The first `size` bytes of a predicate.

@@ -4,4 +4,5 @@ pub mod WhileLaws
 pub mod CounterLaws
 pub mod SearchLaws
 pub mod LogicLaws
+pub mod FfrLaws
 pub mod Readings

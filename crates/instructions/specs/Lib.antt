@@ -5,4 +5,5 @@ pub mod Counter
 pub mod Counts
 pub mod Searches
 pub mod Logic
+pub mod Ffr
 pub mod Instructions

@@ -1,10 +1,11 @@
 -- The registers that an instruction reads and writes.
 use Prim.Native.Nat.{ℕ, _+_, _*_}
 use mathlib.Core.Bool.{true, false}
+use Rattle.registers.specs.State.{ffr}
 use Rattle.words.specs.declared.Target.{Target}
 use Rattle.words.specs.declared.Target.the-variants.{One, Pair, Counter}
 use Rattle.words.specs.declared.Instruction.{Instruction}
-use Rattle.words.specs.declared.Instruction.the-variants.{While, Saturating, IncDec, Cntp, CntpCounter, Pnext, Pfirst, Ptest, Pfalse, Logic}
+use Rattle.words.specs.declared.Instruction.the-variants.{While, Saturating, IncDec, Cntp, CntpCounter, Pnext, Pfirst, Ptest, Pfalse, Logic, Setffr, Wrffr, Rdffr, RdffrPg, RdffrsPg}
 use Rattle.instructions.specs.declared.operands.Registers.{Registers}
 
 -- no register: a number past all of them, which reads as zero or all false, and where a write vanishes
@@ -22,8 +23,8 @@ secondTargetOf (One sf pd) = none
 secondTargetOf (Pair pd) = 2 * pd + 1
 secondTargetOf (Counter four pnd) = none
 
--- read: Rn, Rm; Pg (PNEXT's Pv too), Pn (a Pdn too), Pm. Written: Rd, Pd, the second of a pair, and whether the flags are:
--- PFALSE, logic without S and everything that writes X keep them
+-- read: Rn, Rm; Pg (PNEXT's Pv too), Pn (a Pdn too, and FFR where it is read), Pm. Written: Rd, Pd (or FFR), the second of a pair, and whether the flags are:
+-- PFALSE, logic without S, everything that writes X, and of the forms on FFR all but RDFFRS keep them
 abbrev pub registersOf : Instruction → Registers
 registersOf (While c u t size rn rm) = record { rn = rn; rm = rm; pg = none; pn = none; pm = none; rd = none; pd = targetOf t; pd2 = secondTargetOf t; flags = true }
 registersOf (Saturating d u sf size pm rdn) = record { rn = rdn; rm = none; pg = none; pn = none; pm = pm; rd = rdn; pd = none; pd2 = none; flags = false }
@@ -35,3 +36,8 @@ registersOf (Pfirst pg pdn) = record { rn = none; rm = none; pg = pg; pn = pdn; 
 registersOf (Ptest pg pn) = record { rn = none; rm = none; pg = pg; pn = pn; pm = none; rd = none; pd = none; pd2 = none; flags = true }
 registersOf (Pfalse pd) = record { rn = none; rm = none; pg = none; pn = none; pm = none; rd = none; pd = pd; pd2 = none; flags = false }
 registersOf (Logic o s pm pg pn pd) = record { rn = none; rm = none; pg = pg; pn = pn; pm = pm; rd = none; pd = pd; pd2 = none; flags = s }
+registersOf Setffr = record { rn = none; rm = none; pg = none; pn = none; pm = none; rd = none; pd = ffr; pd2 = none; flags = false }
+registersOf (Wrffr pn) = record { rn = none; rm = none; pg = none; pn = pn; pm = none; rd = none; pd = ffr; pd2 = none; flags = false }
+registersOf (Rdffr pd) = record { rn = none; rm = none; pg = none; pn = ffr; pm = none; rd = none; pd = pd; pd2 = none; flags = false }
+registersOf (RdffrPg pg pd) = record { rn = none; rm = none; pg = pg; pn = ffr; pm = none; rd = none; pd = pd; pd2 = none; flags = false }
+registersOf (RdffrsPg pg pd) = record { rn = none; rm = none; pg = pg; pn = ffr; pm = none; rd = none; pd = pd; pd2 = none; flags = true }

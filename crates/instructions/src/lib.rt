@@ -1,5 +1,5 @@
 // What each instruction does: which registers it names, and what it gives from the values of those that it reads and the vector length.
-// An effect is values alone: `registers_of` says where they are written, so that an instruction touches nothing else. PFALSE, logic without S and everything that writes X keep the flags.
+// An effect is values alone: `registers_of` says where they are written, so that an instruction touches nothing else. PFALSE, logic without S, everything that writes X, and of the forms on FFR all but RDFFRS keep the flags.
 ghost use mathlib.Core.Path.{_≡_};
 ghost use Rattle.instructions.specs.Effect.{computed};
 ghost use Rattle.instructions.specs.Instructions.{whileOf, computeOf};
@@ -7,6 +7,7 @@ ghost use Rattle.instructions.specs.Instructions.{whileOf, computeOf};
 mod counter;
 mod counts;
 mod effect;
+mod ffr;
 mod logic;
 mod operands;
 mod searches;
@@ -14,6 +15,7 @@ mod whiles;
 
 use bits::Size;
 pub use effect::Computed;
+pub use ffr::accepts;
 pub use operands::Registers;
 pub use operands::Values;
 pub use operands::registers_of;
@@ -60,6 +62,11 @@ pub fn compute(i: Instruction, v: Values, vl: u64) -> Computed
             flags,
             ..
         } => logic::logic(operation, flags, pg, pn, pm, vl),
+        Instruction::Setffr => ffr::setffr(vl),
+        Instruction::Wrffr { .. } => ffr::moved(pn),
+        Instruction::Rdffr { .. } => ffr::moved(pn),
+        Instruction::RdffrPg { .. } => ffr::rdffr_pg(pg, pn),
+        Instruction::RdffrsPg { .. } => ffr::rdffrs_pg(pg, pn, vl),
     }
 }
 

@@ -1,5 +1,6 @@
 // The registers that an instruction reads and writes, and the values that it reads.
 use predicates::Predicate;
+use registers::FFR;
 use words::Instruction;
 use words::Target;
 ghost use mathlib.Core.Path.{_≡_};
@@ -11,7 +12,7 @@ const NONE: u8 = 255;
 
 // The numbers of registers. Those of numbers are whole words, so that none is packed beside another.
 pub struct Registers {
-    // Read: Rn and Rm; Pg (PNEXT's Pv too), Pn (a Pdn too) and Pm.
+    // Read: Rn and Rm; Pg (PNEXT's Pv too), Pn (a Pdn too, and FFR where it is read) and Pm.
     pub rn: u64,
     pub rm: u64,
     pub pg: u64,
@@ -134,5 +135,10 @@ pub fn registers_of(i: Instruction) -> Registers
             pd,
             ..
         } => masking(pg, pn, pm, pd, flags),
+        Instruction::Setffr => masking(NONE, NONE, NONE, FFR, false),
+        Instruction::Wrffr { pn } => masking(NONE, pn, NONE, FFR, false),
+        Instruction::Rdffr { pd } => masking(NONE, FFR, NONE, pd, false),
+        Instruction::RdffrPg { pg, pd } => masking(pg, FFR, NONE, pd, false),
+        Instruction::RdffrsPg { pg, pd } => masking(pg, FFR, NONE, pd, true),
     }
 }

@@ -9,7 +9,7 @@ use Rattle.bits.specs.declared.Size.the-variants as Sz
 use Rattle.bits.specs.Bits.{testBit, number, elementBit}
 use Rattle.bits.specs.Search.{count, some, afterLast, scan}
 use Rattle.predicates.specs.PredTest.{atLowest, atHighest, predTest, nzcv, flagsOf}
-use Rattle.predicates.specs.Predicate.{bitAt, pack, active, spread, elements, predicateLength, hasBitFrom, allFalse}
+use Rattle.predicates.specs.Predicate.{bitAt, pack, active, spread, elements, predicateLength, hasBitFrom, monotonic, allFalse}
 use Rattle.registers.specs.declared.State.{State}
 use Rattle.registers.specs.Legal.{isLength, hasStrayBit, illegal}
 use Rattle.replies.specs.Reply.{numberOf}
@@ -18,12 +18,13 @@ use Rattle.scalars.specs.declared.Condition.the-variants.{Less, LessEqual, Grea
 use Rattle.words.specs.declared.Decoded.{Decoded}
 use Rattle.words.specs.declared.Decoded.the-variants.{Ours, Refused}
 use Rattle.words.specs.declared.Instruction.{Instruction}
-use Rattle.words.specs.declared.Instruction.the-variants.{While, Saturating, IncDec, CntpCounter, Pnext}
+use Rattle.words.specs.declared.Instruction.the-variants.{While, Saturating, IncDec, CntpCounter, Pnext, Setffr, Wrffr, Rdffr, RdffrPg, RdffrsPg}
 use Rattle.words.specs.declared.Target.the-variants.{One, Pair, Counter}
 use Rattle.words.specs.Words.{readBy, decodeOf, wordOf, fieldsOf}
 use Rattle.instructions.specs.Counter.{counterOf, counterFlags, countEnd, expanded, whileCounterOf, cntpCounterOf}
 use Rattle.instructions.proofs.Readings.{expandedTo14}
 use Rattle.instructions.specs.Counts.{incDecOf, saturatingOf}
+use Rattle.instructions.specs.Ffr.{setffrOf, underMask, rdffrsPgOf}
 use Rattle.instructions.specs.Instructions.{computeOf}
 use Rattle.instructions.specs.Searches.{pnextOf}
 use Rattle.instructions.specs.Whiles.{allHeld, whileElement, whileOneOf, whilePairOf}
@@ -42,7 +43,7 @@ start x1 x2 p0 p1 = record {
   access = true;
   flags = flagsOf 0;
   x = set (set (replicate 31 0) 1 x1) 2 x2;
-  p = set (set (replicate 16 allFalse) 0 (pack (testBit p0))) 1 (pack (testBit p1));
+  p = set (set (replicate 17 allFalse) 0 (pack (testBit p0))) 1 (pack (testBit p1));
 }
 
 -- what is looked at after a step: the reply, NZCV, X1, and the words of P0, P1 and P8
@@ -81,11 +82,20 @@ one i a b = after (start a b 0 0) i
 
 -- level 0, access off, all else zero; and the replies to words there
 barred : State
-barred = record { vl = 128; level = 0; access = false; flags = flagsOf 0; x = replicate 31 0; p = replicate 16 allFalse }
+barred = record { vl = 128; level = 0; access = false; flags = flagsOf 0; x = replicate 31 0; p = replicate 17 allFalse }
+
+-- with FFR as given, what the first instruction and then the second leave
+first-fault : ℕ → ℕ → Instruction → Instruction → List ℕ
+first-fault ffr p1 i j = after (stepOf (withP (start 0 0 0 p1) 16 (pack (testBit ffr))) (wordOf i) .state) j
+
+-- the replies to WRFFR P1, with each of these in it
+written : List ℕ → List ℕ
+written ps = map (λ (p : ℕ). numberOf (stepOf (start 0 0 0 p) (wordOf (Wrffr 1)) .reply)) ps
 
 replies : List ℕ → List ℕ
 replies ws = map (λ (w : ℕ). numberOf (stepOf barred w .reply)) ws
 
+-- request 5: SETFFR, and WRFFR of a run, each read by RDFFR; RDFFR under Pg without flags and with them; WRFFR of runs, empty and full, and of others; and where access is off
 -- request 4: zero, and WHILELE with bit 31; BRKA, and SEL with S = 1; and WHILELE, which is ours
 pub examples : List Example
 examples =
@@ -108,11 +118,17 @@ examples =
     ∷ base 14 (read (decodeOf 0x25E55893)) (read (Ours (While Greater true (Pair 1) Sz.D 4 5)))
     ∷ base 14 (read (decodeOf 0x252A8C23)) (read (Ours (Saturating true false true Sz.B 1 3)))
     ∷ request 2 (after (withP (start 9 0 0 0) 8 (pack (testBit 0x0081))) (CntpCounter true Sz.B 8 1)) (gives 0b0000 0 0 0 0x0081)
+    ∷ request 5 (first-fault 0x0005 0 Setffr (Rdffr 0)) (gives 0b0000 0 0xFFFF 0 0)
+    ∷ request 5 (first-fault 0x0005 0x000F (Wrffr 1) (Rdffr 0)) (gives 0b0000 0 0x000F 0x000F 0)
+    ∷ request 5 (first-fault 0x003F 0x00F0 (RdffrPg 1 8) (Rdffr 0)) (gives 0b0000 0 0x003F 0x00F0 0x0030)
+    ∷ request 5 (first-fault 0x003F 0x00F0 (Rdffr 8) (RdffrsPg 1 0)) (gives 0b1010 0 0x0030 0x00F0 0x003F)
+    ∷ request 5 (written (0 ∷ 0x0001 ∷ 0x0FFF ∷ 0xFFFF ∷ 0x0002 ∷ 0x0005 ∷ 0xFFFE ∷ [])) (0 ∷ 0 ∷ 0 ∷ 0 ∷ 14 ∷ 14 ∷ 14 ∷ [])
+    ∷ request 5 (replies (0x25289000 ∷ 0x252C9000 ∷ [])) (2 ∷ 2 ∷ [])
     ∷ request 4 (replies (0 ∷ 0xA5A24438 ∷ 0x25104441 ∷ 0x25434650 ∷ 0x25A24438 ∷ [])) (1 ∷ 1 ∷ 13 ∷ 13 ∷ 2 ∷ [])
     ∷ []
 
 pub as-wanted : map (λ e. e .got) examples ≡ map (λ e. e .wanted) examples
-unfolding start seen after gives read one base request barred replies examples testBit number elementBit count some afterLast scan bitAt pack active spread elements predicateLength hasBitFrom atLowest atHighest predTest nzcv flagsOf isLength hasStrayBit illegal withX withP withFlags readBy operandAt comparison clamp saturating allHeld whileElement counterOf counterFlags countEnd expanded whileOneOf whilePairOf whileCounterOf cntpCounterOf incDecOf saturatingOf pnextOf computeOf apply executeOf afterWord stepOf
+unfolding start seen after gives read one base request barred replies first-fault written examples testBit number elementBit count some afterLast scan bitAt pack active spread elements predicateLength hasBitFrom atLowest atHighest predTest nzcv flagsOf isLength hasStrayBit illegal withX withP withFlags readBy operandAt comparison clamp saturating allHeld whileElement counterOf counterFlags countEnd expanded whileOneOf whilePairOf whileCounterOf cntpCounterOf incDecOf saturatingOf pnextOf monotonic setffrOf underMask rdffrsPgOf computeOf apply executeOf afterWord stepOf
 as-wanted = refl
 
 -- what `counter-reads-alike` asks of a state is met: the counter of example 7

@@ -23,12 +23,12 @@ use Rattle.predicates.proofs.Live.{elements-fit, elements-within}
 use Rattle.predicates.proofs.Spans.{spread-within, none-within, within-none, word-within, false-within}
 use Rattle.registers.specs.declared.State.{State}
 use Rattle.registers.specs.Legal.{legal}
-use Rattle.registers.specs.State.{readX, readP, withX, withP, withFlags}
+use Rattle.registers.specs.State.{ffr, readX, readP, withX, withP, withFlags}
 use Rattle.registers.proofs.Legality.{legal-has, quads, withX-legal, withP-legal, withFlags-legal}
 use Rattle.registers.proofs.Registers.{Sized}
 use Rattle.scalars.specs.declared.Condition.{Condition}
 use Rattle.words.specs.declared.Instruction.{Instruction}
-use Rattle.words.specs.declared.Instruction.the-variants.{While, Saturating, IncDec, Cntp, CntpCounter, Pnext, Pfirst, Ptest, Pfalse, Logic}
+use Rattle.words.specs.declared.Instruction.the-variants.{While, Saturating, IncDec, Cntp, CntpCounter, Pnext, Pfirst, Ptest, Pfalse, Logic, Setffr, Wrffr, Rdffr, RdffrPg, RdffrsPg}
 use Rattle.words.specs.declared.Operation.{Operation}
 use Rattle.words.specs.declared.Target.{Target}
 use Rattle.words.specs.declared.Target.the-variants.{One, Pair, Counter}
@@ -38,6 +38,7 @@ use Rattle.instructions.specs.Counter.{groupOf, stored, counterOf, whileCounter
 use Rattle.instructions.specs.Counts.{incDecOf, saturatingOf, cntpOf}
 use Rattle.instructions.specs.Searches.{nextElement, nextResult, pnextOf, firstResult, pfirstOf, ptestOf}
 use Rattle.instructions.specs.Logic.{logicResult, logicOf}
+use Rattle.instructions.specs.Ffr.{rdffrsPgOf}
 use Rattle.instructions.specs.Instructions.{whileOf, computeOf}
 use Rattle.instructions.specs.Operands.{registersOf}
 use Rattle.instructions.specs.Whiles.{allHeld, whileElement, lowHalf, highHalf, whileOneOf, whilePairOf}
@@ -45,6 +46,7 @@ use Rattle.scalars.specs.While.{upward, comparison, heldOf}
 use Rattle.instructions.proofs.CounterLaws.{group-most, counter-cases}
 use Rattle.instructions.proofs.WhileLaws.{held-le}
 use Rattle.instructions.proofs.LogicLaws.{logic-within}
+use Rattle.instructions.proofs.FfrLaws.{set-within, set-alone, mask-within}
 use Rattle.machine.specs.Execute.{valuesOf, apply, executeOf}
 use Rattle.machine.proofs.Frame.{beside-flags}
 
@@ -89,7 +91,7 @@ module _ (s : State) (ok : legal s ≡ true) (sized : Sized s) where
 
   read-within : (r : ℕ) → hasBitFrom (predicateLength (s .vl)) (readP s r) ≡ false
   read-within r =
-      elim (decLt r 16) [
+      elim (decLt r 17) [
         | yes l ↦ legal-has s ok .bits r l
         | no l ↦ ap (hasBitFrom (predicateLength (s .vl))) (List·getD-eq-default (s .p) allFalse (omega (arith, sized .ps))) ∙ false-within (predicateLength (s .vl))
       ]
@@ -140,7 +142,7 @@ module _ (s : State) (ok : legal s ≡ true) (sized : Sized s) where
       go false = record { pd = q; pd2 = none }
 
   pub effect-within : (i : Instruction) → Within (s .vl) (computeOf i (valuesOf s (registersOf i)) (s .vl))
-  unfolding computeOf incDecOf saturatingOf cntpOf cntpCounterOf pnextOf pfirstOf ptestOf
+  unfolding computeOf incDecOf saturatingOf cntpOf cntpCounterOf pnextOf pfirstOf ptestOf rdffrsPgOf
   effect-within (While c u t size rn rm) = while-within c u t size (readX s rn) (readX s rm)
   effect-within (Saturating d u sf size pm rdn) = record { pd = none; pd2 = none }
   effect-within (IncDec d size pm rdn) = record { pd = none; pd2 = none }
@@ -151,6 +153,11 @@ module _ (s : State) (ok : legal s ≡ true) (sized : Sized s) where
   effect-within (Ptest pg pn) = record { pd = none; pd2 = none }
   effect-within (Pfalse pd) = record { pd = none; pd2 = none }
   effect-within (Logic o sets pm pg pn pd) = logic-in o sets pg pn pm
+  effect-within Setffr = record { pd = set-within (s .vl); pd2 = set-alone (s .vl) }
+  effect-within (Wrffr pn) = record { pd = read-within pn; pd2 = none }
+  effect-within (Rdffr pd) = record { pd = read-within ffr; pd2 = none }
+  effect-within (RdffrPg pg pd) = record { pd = mask-within (predicateLength (s .vl)) (readP s pg) (readP s ffr) (read-within pg); pd2 = none }
+  effect-within (RdffrsPg pg pd) = record { pd = mask-within (predicateLength (s .vl)) (readP s pg) (readP s ffr) (read-within pg); pd2 = none }
 
 -- ---- an effect within PL keeps legality
 

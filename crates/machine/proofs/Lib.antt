@@ -5,4 +5,5 @@ pub mod Kept
 pub mod Counters
 pub mod Steps
 pub mod Replies
+pub mod Ffr
 pub mod Examples

@@ -7,23 +7,28 @@ use native.Mathlib.Decide.{decLt}
 use native.Mathlib.Omega.{arith}
 use borrow.Author.Tests.{lt-ltb, le-ltb}
 use Rattle.bits.specs.Choice.{pick}
+use Rattle.predicates.specs.Predicate.{monotonic}
 use Rattle.replies.specs.declared.Reply.{Reply}
-use Rattle.replies.specs.declared.Reply.the-variants.{Done, ForeignWord, LevelTooLow, AccessOff, IllegalState, UnsupportedForm}
+use Rattle.replies.specs.declared.Reply.the-variants.{Done, ForeignWord, LevelTooLow, AccessOff, IllegalState, UnsupportedForm, NotMonotonic}
 use Rattle.replies.specs.Reply.{isDone}
 use Rattle.registers.specs.declared.State.{State}
 use Rattle.registers.specs.Legal.{legal}
+use Rattle.registers.specs.State.{readP}
 use Rattle.words.specs.declared.Decoded.{Decoded}
 use Rattle.words.specs.declared.Decoded.the-variants.{Ours, Refused}
 use Rattle.words.specs.declared.Instruction.{Instruction}
+use Rattle.words.specs.declared.Instruction.the-variants.{Wrffr}
 use Rattle.words.specs.Words.{hasOpcode, decodeOf, wordOf, inRange, levelOf}
 use Rattle.words.proofs.RoundTrip.{read-written}
 use Rattle.words.proofs.Refusals.{foreign-read, unread}
+use Rattle.instructions.specs.Ffr.{accepts}
 use Rattle.instructions.specs.Operands.{registersOf}
+use Rattle.instructions.proofs.FfrLaws.{refuses}
 use Rattle.machine.specs.declared.Stepped.{Stepped}
-use Rattle.machine.specs.Execute.{executeOf}
+use Rattle.machine.specs.Execute.{valuesOf, executeOf}
 use Rattle.machine.specs.Given.{Given}
-use Rattle.machine.specs.Given.Given.{illegal, foreign, unsupported, low, off, done}
-use Rattle.machine.specs.Step.{admissionOf, answered, afterWord, stepOf}
+use Rattle.machine.specs.Given.Given.{illegal, foreign, unsupported, low, off, broken, done}
+use Rattle.machine.specs.Step.{replyOf, answered, afterWord, stepOf}
 use Rattle.machine.proofs.Frame.{Untouched, untouched}
 use Rattle.machine.proofs.Steps.{pick-yes, pick-no, step-legal}
 
@@ -42,15 +47,18 @@ module _ (s : State) (w : ℕ) (ok : legal s ≡ true) where
     ours-is : stepOf s w ≡ afterWord s (Ours i)
     ours-is = step-legal s w ok ∙ ap (afterWord s) ours
 
-    reply-is : (r : Reply) → admissionOf i (s .level) (s .access) ≡ r → stepOf s w ≡ answered r (pick (isDone r) (executeOf s i) s)
+    reply-is : (r : Reply) → replyOf s i ≡ r → stepOf s w ≡ answered r (pick (isDone r) (executeOf s i) s)
     unfolding afterWord
     reply-is r e = ours-is ∙ ap (λ (q : Reply). answered q (pick (isDone q) (executeOf s i) s)) e
 
-    too-low : s .level < levelOf i → admissionOf i (s .level) (s .access) ≡ LevelTooLow
+    too-low : s .level < levelOf i → replyOf s i ≡ LevelTooLow
     too-low l = pick-yes _ _ _ (lt-ltb (s .level) (levelOf i) l)
 
-    by-access : (b : Bool) → s .access ≡ b → levelOf i ≤ s .level → admissionOf i (s .level) (s .access) ≡ pick b Done AccessOff
-    by-access b e l = pick-no _ _ _ (le-ltb (s .level) (levelOf i) l) ∙ ap (λ (t : Bool). pick t Done AccessOff) e
+    by-access : (b : Bool) → s .access ≡ b → levelOf i ≤ s .level → replyOf s i ≡ pick b (pick (accepts i (valuesOf s (registersOf i))) Done NotMonotonic) AccessOff
+    by-access b e l = pick-no _ _ _ (le-ltb (s .level) (levelOf i) l) ∙ ap (λ (t : Bool). pick t (pick (accepts i (valuesOf s (registersOf i))) Done NotMonotonic) AccessOff) e
+
+    by-value : (b : Bool) → accepts i (valuesOf s (registersOf i)) ≡ b → s .access ≡ true → levelOf i ≤ s .level → replyOf s i ≡ pick b Done NotMonotonic
+    by-value b e a l = by-access true a l ∙ ap (λ (t : Bool). pick t Done NotMonotonic) e
 
 illegal-is : (s : State) (w : ℕ) → legal s ≡ false → stepOf s w ≡ answered IllegalState s
 unfolding stepOf
@@ -65,14 +73,22 @@ given-reply s w ForeignWord (foreign ok h) = ap (λ (t : Stepped). t .reply) (re
 given-reply s w UnsupportedForm (unsupported ok h k) = ap (λ (t : Stepped). t .reply) (refused-is s w ok UnsupportedForm (unread w h k))
 given-reply s w LevelTooLow (low i ok h l) = ap (λ (t : Stepped). t .reply) (reply-is s w ok i h LevelTooLow (too-low s w ok i h l))
 given-reply s w AccessOff (off i ok h l a) = ap (λ (t : Stepped). t .reply) (reply-is s w ok i h AccessOff (by-access s w ok i h false a l))
-given-reply s w Done (done i ok h l a) = ap (λ (t : Stepped). t .reply) (reply-is s w ok i h Done (by-access s w ok i h true a l))
+given-reply s w NotMonotonic (broken pn ok h l a m) = ap (λ (t : Stepped). t .reply) (reply-is s w ok (Wrffr pn) h NotMonotonic (by-value s w ok (Wrffr pn) h false m a l))
+given-reply s w Done (done i ok h l a m) = ap (λ (t : Stepped). t .reply) (reply-is s w ok i h Done (by-value s w ok i h true m a l))
 
 -- and one of its rows applies
 row : (s : State) (w : ℕ) → (r : Reply) × Given s w r
 row s w = by-legality (legal s) refl
   where
+    by-value′ : (i : Instruction) → legal s ≡ true → decodeOf w ≡ Ours i → levelOf i ≤ s .level → s .access ≡ true → (b : Bool) → accepts i (valuesOf s (registersOf i)) ≡ b → (r : Reply) × Given s w r
+    by-value′ i ok h l a true m = (Done, done i ok h l a m)
+    by-value′ i ok h l a false m =
+        let (pn, e, n) = refuses i (valuesOf s (registersOf i)) m in
+        let same : readP s (registersOf i .pn) ≡ readP s pn = ap (λ (k : Instruction). readP s (registersOf k .pn)) e in
+        (NotMonotonic, broken pn ok (h ∙ ap Ours e) (let q : levelOf i ≡ levelOf (Wrffr pn) = ap levelOf e in omega arith) a (sym (ap monotonic same) ∙ n))
+
     by-access′ : (i : Instruction) → legal s ≡ true → decodeOf w ≡ Ours i → levelOf i ≤ s .level → (b : Bool) → s .access ≡ b → (r : Reply) × Given s w r
-    by-access′ i ok h l true a = (Done, done i ok h l a)
+    by-access′ i ok h l true a = by-value′ i ok h l a (accepts i (valuesOf s (registersOf i))) refl
     by-access′ i ok h l false a = (AccessOff, off i ok h l a)
 
     by-opcode : legal s ≡ true → (r : Reply) → decodeOf w ≡ Refused r → (b : Bool) → hasOpcode w ≡ b → (r : Reply) × Given s w r
@@ -109,7 +125,11 @@ accepted-step s w i h e = go Done (exactly-when s w Done .0 e) refl
     go UnsupportedForm (unsupported ok b k) z = let n : _≡_ {A = ℕ} 0 1 = cc in absurd (omega arith)
     go LevelTooLow (low j ok b l) z = let n : _≡_ {A = ℕ} 0 1 = cc in absurd (omega arith)
     go AccessOff (off j ok b l a) z = let n : _≡_ {A = ℕ} 0 1 = cc in absurd (omega arith)
-    go Done (done j ok b l a) z = ap (λ (t : Stepped). t .state) (reply-is s w ok i h Done (by-access s w ok i h true a (let same : levelOf j ≡ levelOf i = ap levelOf (let k : j ≡ i = cc in k) in omega arith)))
+    go NotMonotonic (broken pn ok b l a m) z = let n : _≡_ {A = ℕ} 0 1 = cc in absurd (omega arith)
+    go Done (done j ok b l a m) z =
+        let k : j ≡ i = cc in
+        let same : levelOf j ≡ levelOf i = ap levelOf k in
+        ap (λ (t : Stepped). t .state) (reply-is s w ok i h Done (by-value s w ok i h true (sym (ap (λ (x : Instruction). accepts x (valuesOf s (registersOf x))) k) ∙ m) a (omega arith)))
 
 -- and so is the step of an instruction's own word
 pub instruction-step : (s : State) (i : Instruction) → inRange i ≡ true → stepOf s (wordOf i) .reply ≡ Done → stepOf s (wordOf i) .state ≡ executeOf s i
@@ -125,7 +145,8 @@ refused-step s w h = let (r, g) = row s w in go r g
     go UnsupportedForm (unsupported ok b k) = ap (λ (t : Stepped). t .state) (refused-is s w ok UnsupportedForm (unread w b k))
     go LevelTooLow (low i ok b l) = ap (λ (t : Stepped). t .state) (reply-is s w ok i b LevelTooLow (too-low s w ok i b l))
     go AccessOff (off i ok b l a) = ap (λ (t : Stepped). t .state) (reply-is s w ok i b AccessOff (by-access s w ok i b false a l))
-    go Done (done i ok b l a) = absurd (h (given-reply s w Done (done i ok b l a)))
+    go NotMonotonic (broken pn ok b l a m) = ap (λ (t : Stepped). t .state) (reply-is s w ok (Wrffr pn) b NotMonotonic (by-value s w ok (Wrffr pn) b false m a l))
+    go Done (done i ok b l a m) = absurd (h (given-reply s w Done (done i ok b l a m)))
 
 -- an accepted word touches nothing but the registers that its instruction names as written
 pub accepted-untouched : (s : State) (w : ℕ) (i : Instruction) → decodeOf w ≡ Ours i → stepOf s w .reply ≡ Done → Untouched s (stepOf s w .state) (registersOf i)

@@ -11,7 +11,7 @@ use borrow.Author.Tests.{lt-ltb, le-ltb, not-true, not-false}
 use Rattle.bits.specs.Choice.{pick}
 use Rattle.bits.proofs.Searches.{never}
 use Rattle.replies.specs.declared.Reply.{Reply}
-use Rattle.replies.specs.declared.Reply.the-variants.{Done, LevelTooLow, AccessOff, IllegalState}
+use Rattle.replies.specs.declared.Reply.the-variants.{Done, LevelTooLow, AccessOff, IllegalState, NotMonotonic}
 use Rattle.replies.specs.Reply.{isDone}
 use Rattle.registers.specs.declared.State.{State}
 use Rattle.registers.specs.declared.parts.Settings.{Settings}
@@ -25,8 +25,12 @@ use Rattle.words.specs.declared.Instruction.{Instruction}
 use Rattle.words.specs.Words.{decodeOf, levelOf}
 use Rattle.machine.specs.declared.Ran.{Ran}
 use Rattle.machine.specs.declared.Stepped.{Stepped}
-use Rattle.machine.specs.Execute.{executeOf}
-use Rattle.machine.specs.Step.{admissionOf, answered, afterWord, stepOf, afterWords, runOf, stepsOf}
+use Rattle.instructions.specs.declared.operands.Registers.{Registers}
+use Rattle.instructions.specs.declared.operands.Values.{Values}
+use Rattle.instructions.specs.Ffr.{accepts}
+use Rattle.instructions.specs.Operands.{registersOf}
+use Rattle.machine.specs.Execute.{valuesOf, executeOf}
+use Rattle.machine.specs.Step.{admissionOf, replyOf, answered, afterWord, stepOf, afterWords, runOf, stepsOf}
 use Rattle.machine.proofs.Frame.{execute-sized}
 use Rattle.machine.proofs.Kept.{execute-legal}
 
@@ -38,24 +42,43 @@ pub pick-no : {A : Type 0} (b : Bool) (x y : A) → b ≡ false → pick b x y �
 pick-no false x y h = refl
 pick-no true x y h = never refl h
 
--- ---- the refusals 2 and 3
+-- ---- the refusals 2, 3 and 14
 
-module _ (i : Instruction) (n level : ℕ) (access : Bool) (asked : n ≡ levelOf i) where
-  pub asks-more : level < n → LevelTooLow ≡ admissionOf i level access
+module _ (i : Instruction) (n level : ℕ) (access accepted : Bool) (asked : n ≡ levelOf i) where
+  pub asks-more : level < n → LevelTooLow ≡ admissionOf i level access accepted
   asks-more l = sym (pick-yes _ _ _ (lt-ltb level (levelOf i) (omega arith)))
 
-  level-enough : n ≤ level → admissionOf i level access ≡ pick access Done AccessOff
+  level-enough : n ≤ level → admissionOf i level access accepted ≡ pick access (pick accepted Done NotMonotonic) AccessOff
   level-enough l = pick-no _ _ _ (le-ltb level (levelOf i) (omega arith))
 
-  pub no-access : n ≤ level → not access ≡ true → AccessOff ≡ admissionOf i level access
+  pub no-access : n ≤ level → not access ≡ true → AccessOff ≡ admissionOf i level access accepted
   no-access l a = sym (level-enough l ∙ pick-no _ _ _ (not-true access a))
 
-  pub admitted : n ≤ level → not access ≡ false → Done ≡ admissionOf i level access
-  admitted l a = sym (level-enough l ∙ pick-yes _ _ _ (not-false access a))
+  access-on : n ≤ level → not access ≡ false → admissionOf i level access accepted ≡ pick accepted Done NotMonotonic
+  access-on l a = level-enough l ∙ pick-yes _ _ _ (not-false access a)
+
+  pub not-taken : n ≤ level → not access ≡ false → not accepted ≡ true → NotMonotonic ≡ admissionOf i level access accepted
+  not-taken l a t = sym (access-on l a ∙ pick-no _ _ _ (not-true accepted t))
+
+  pub admitted : n ≤ level → not access ≡ false → not accepted ≡ false → Done ≡ admissionOf i level access accepted
+  admitted l a t = sym (access-on l a ∙ pick-yes _ _ _ (not-false accepted t))
 
 -- ---- an instruction, refused or executed
 
-module _ (s : State) (i : Instruction) (r : Reply) (b : Bool) (is : r ≡ admissionOf i (s .level) (s .access)) (done : b ≡ isDone r) where
+-- the reply, from the values that were read
+pub replied : (s : State) (i : Instruction) (q : Registers) (v : Values) (t : Bool) (r : Reply) → q ≡ registersOf i → v ≡ valuesOf s q → t ≡ accepts i v
+    → r ≡ admissionOf i (s .level) (s .access) t → r ≡ replyOf s i
+replied s i q v t r hq hv ht hr =
+    hr
+    ∙ ap (admissionOf i (s .level) (s .access)) (ht ∙ ap (accepts i) hv)
+    ∙ ap (λ (o : Registers). admissionOf i (s .level) (s .access) (accepts i (valuesOf s o))) hq
+
+-- the same where values were read whatever the settings and flags
+pub replied-in : (s : Settings) (f : List Bool) (x : List ℕ) (p : List (List ℕ)) (i : Instruction) (q : Registers) (v : Values) (t : Bool) (r : Reply) → q ≡ registersOf i
+    → ((u : Settings) → (g : List Bool) → v ≡ valuesOf (stateAt u g x p) q) → t ≡ accepts i v → r ≡ admissionOf i (s .level) (s .access) t → r ≡ replyOf (stateAt s f x p) i
+replied-in s f x p i q v t r hq hv ht hr = replied (stateAt s f x p) i q v t r hq (hv s f) ht hr
+
+module _ (s : State) (i : Instruction) (r : Reply) (b : Bool) (is : r ≡ replyOf s i) (done : b ≡ isDone r) where
   at-reply : answered r (pick b (executeOf s i) s) ≡ afterWord s (Ours i)
   unfolding afterWord
   at-reply = ap (λ (t : Bool). answered r (pick t (executeOf s i) s)) done ∙ ap (λ (q : Reply). answered q (pick (isDone q) (executeOf s i) s)) is
@@ -157,7 +180,7 @@ pub record Kept (s : State) : Type 0 where
 pub after-kept : (s : State) (d : Decoded) → Kept s → Kept (afterWord s d .state)
 unfolding afterWord
 after-kept s (Refused r) k = k
-after-kept s (Ours i) k = go (isDone (admissionOf i (s .level) (s .access)))
+after-kept s (Ours i) k = go (isDone (replyOf s i))
   where
     go : (b : Bool) → Kept (pick b (executeOf s i) s)
     go true = record { legal-is = execute-legal s i (k .sized) (k .legal-is); sized = execute-sized s i (k .sized) }

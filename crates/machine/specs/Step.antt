@@ -5,7 +5,7 @@ use mathlib.Core.List.{List, [], _∷_}
 use lib.Dec.{ltb}
 use Rattle.bits.specs.Choice.{pick}
 use Rattle.replies.specs.declared.Reply.{Reply}
-use Rattle.replies.specs.declared.Reply.the-variants.{Done, LevelTooLow, AccessOff, IllegalState}
+use Rattle.replies.specs.declared.Reply.the-variants.{Done, LevelTooLow, AccessOff, IllegalState, NotMonotonic}
 use Rattle.replies.specs.Reply.{isDone}
 use Rattle.registers.specs.declared.State.{State}
 use Rattle.registers.specs.Legal.{legal}
@@ -13,13 +13,18 @@ use Rattle.words.specs.declared.Decoded.{Decoded}
 use Rattle.words.specs.declared.Decoded.the-variants.{Ours, Refused}
 use Rattle.words.specs.declared.Instruction.{Instruction}
 use Rattle.words.specs.Words.{decodeOf, levelOf}
+use Rattle.instructions.specs.Ffr.{accepts}
+use Rattle.instructions.specs.Operands.{registersOf}
 use Rattle.machine.specs.declared.Stepped.{Stepped}
 use Rattle.machine.specs.declared.Ran.{Ran}
-use Rattle.machine.specs.Execute.{executeOf}
+use Rattle.machine.specs.Execute.{valuesOf, executeOf}
 
--- the refusals 2 and 3 of an instruction, in this order, or `Done`
-abbrev pub admissionOf : Instruction → ℕ → Bool → Reply
-admissionOf i level access = pick (ltb level (levelOf i)) LevelTooLow (pick access Done AccessOff)
+-- the refusals 2, 3 and 14 of an instruction, in this order, or `Done`; `accepted` tells whether it takes the values that it reads
+abbrev pub admissionOf : Instruction → ℕ → Bool → Bool → Reply
+admissionOf i level access accepted = pick (ltb level (levelOf i)) LevelTooLow (pick access (pick accepted Done NotMonotonic) AccessOff)
+
+abbrev pub replyOf : State → Instruction → Reply
+replyOf s i = admissionOf i (s .level) (s .access) (accepts i (valuesOf s (registersOf i)))
 
 abbrev pub answered : Reply → State → Stepped
 answered r s = record { reply = r; state = s }
@@ -28,7 +33,7 @@ answered r s = record { reply = r; state = s }
 unfoldable pub afterWord : State → Decoded → Stepped
 afterWord s (Refused r) = answered r s
 afterWord s (Ours i) =
-    let r = admissionOf i (s .level) (s .access) in
+    let r = replyOf s i in
     answered r (pick (isDone r) (executeOf s i) s)
 
 -- 4 comes first

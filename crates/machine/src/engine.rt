@@ -13,7 +13,7 @@ ghost use Rattle.registers.specs.declared.parts.Settings.{Settings};
 ghost use Rattle.registers.specs.Parts.{stateAt};
 ghost use Rattle.words.specs.Words.{decodeOf};
 ghost use Rattle.instructions.specs.Effect.{effectIn};
-ghost use Rattle.machine.specs.Execute.{valuesOf, apply, executeOf};
+ghost use Rattle.machine.specs.Execute.{valuesOf, apply};
 ghost use Rattle.machine.specs.Step.{afterWord, stepOf, runOf, answered};
 
 // What the registers hold that an instruction reads.
@@ -47,22 +47,7 @@ fn write(
     registers::parts::put_p(p, r.pd2, pd2);
 }
 
-// An instruction executed where the registers stand.
-fn execute(
-    settings: Settings,
-    flags: &mut [bool; 4],
-    x: &mut [u64],
-    p: &mut [[u64; 4]],
-    i: Instruction,
-)
-    ensures { λ _. ⌜ stateAt settings (now (flags .exit)) (now (x .exit)) (now (p .exit)) ≡ executeOf (stateAt settings (now (flags .entry)) (now (x .entry)) (now (p .entry))) i ⌝ }
-{
-    let r = instructions::registers_of(i);
-    let e = instructions::compute(i, read(x, p, r), settings.vl);
-    write(settings, flags, x, p, r, e);
-}
-
-// An instruction that the state may refuse.
+// An instruction that the state may refuse, executed where the registers stand.
 fn attempt(
     settings: Settings,
     flags: &mut [bool; 4],
@@ -72,11 +57,15 @@ fn attempt(
 ) -> Reply
     ensures { λ r. ⌜ answered r (stateAt settings (now (flags .exit)) (now (x .exit)) (now (p .exit))) ≡ afterWord (stateAt settings (now (flags .entry)) (now (x .entry)) (now (p .entry))) (Decoded.Ours i) ⌝ }
 {
-    let reply = super::admission(i, settings.level, settings.access);
+    let r = instructions::registers_of(i);
+    let v = read(x, p, r);
+    let accepted = instructions::accepts(i, v);
+    let reply = super::admission(i, settings.level, settings.access, accepted);
     if !reply.is_done() {
         return reply;
     }
-    execute(settings, flags, x, p, i);
+    let e = instructions::compute(i, v, settings.vl);
+    write(settings, flags, x, p, r, e);
     reply
 }
 

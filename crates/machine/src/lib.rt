@@ -1,5 +1,6 @@
 // The machine: one step and a run of steps, over a state by value and (`engine`) over lent registers, with one meaning.
-// A step refuses in this order: 4 the state is illegal, 1 or 13 the word is none of ours, 2 the level is below the form's, 3 access is off; a refusal leaves the state as it was.
+// A step refuses in this order: 4 the state is illegal, 1 or 13 the word is none of ours, 2 the level is below the form's, 3 access is off, 14 WRFFR's Pn is no run of ones from bit 0; a refusal
+// leaves the state as it was.
 // An accepted word executes its instruction: all registers are read before any is written, and nothing else is touched. A run answers for itself 0, or 4, and names the
 // reply to the word it stopped at.
 ghost use mathlib.Core.Path.{_≡_};
@@ -7,7 +8,7 @@ ghost use Rattle.bits.specs.Choice.{pick};
 ghost use Rattle.predicates.specs.PredTest.{flagsOf};
 ghost use Rattle.registers.specs.State.{withFlags};
 ghost use Rattle.instructions.specs.Effect.{effectIn};
-ghost use Rattle.machine.specs.Execute.{valuesOf, apply as applyOf, executeOf};
+ghost use Rattle.machine.specs.Execute.{valuesOf, apply as applyOf};
 ghost use Rattle.machine.specs.Step.{admissionOf, afterWord, stepOf, runOf};
 
 pub mod engine;
@@ -82,9 +83,9 @@ impl Machine {
     }
 }
 
-// The refusals 2 and 3, in this order, or `Done`.
-fn admission(i: Instruction, level: u8, access: bool) -> Reply
-    ensures { λ r. ⌜ r ≡ admissionOf i level access ⌝ }
+// The refusals 2, 3 and 14, in this order, or `Done`.
+fn admission(i: Instruction, level: u8, access: bool, accepted: bool) -> Reply
+    ensures { λ r. ⌜ r ≡ admissionOf i level access accepted ⌝ }
 {
     if level < words::level(i) {
         return Reply::LevelTooLow;
@@ -92,28 +93,25 @@ fn admission(i: Instruction, level: u8, access: bool) -> Reply
     if !access {
         return Reply::AccessOff;
     }
+    if !accepted {
+        return Reply::NotMonotonic;
+    }
     Reply::Done
 }
 
-// An instruction that the state may refuse.
+// An instruction that the state may refuse. All registers are read before any is written.
 fn attempt(state: State, i: Instruction) -> Stepped
     ensures { λ r. ⌜ r ≡ afterWord state (Decoded.Ours i) ⌝ }
 {
-    let reply = admission(i, state.level, state.access);
+    let r = instructions::registers_of(i);
+    let v = values(state, r);
+    let accepted = instructions::accepts(i, v);
+    let reply = admission(i, state.level, state.access, accepted);
     if !reply.is_done() {
         return Stepped { reply, state };
     }
-    let next = execute(state, i);
+    let next = apply(state, r, instructions::compute(i, v, state.vl));
     Stepped { reply, state: next }
-}
-
-// All registers are read before any is written.
-fn execute(state: State, i: Instruction) -> State
-    ensures { λ r. ⌜ r ≡ executeOf state i ⌝ }
-{
-    let r = instructions::registers_of(i);
-    let e = instructions::compute(i, values(state, r), state.vl);
-    apply(state, r, e)
 }
 
 fn values(state: State, r: Registers) -> Values

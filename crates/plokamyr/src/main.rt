@@ -2,9 +2,9 @@
 use libc::STDIN_FILENO;
 use libc::STDOUT_FILENO;
 
-// An image has at most 17,171 bytes: one byte more tells a longer input. The text has at most 86,026 bytes.
+// One byte more than the largest image has tells a longer input. The text has at most 86,026 bytes.
 fn main() {
-    let mut image = [0u8; 17172];
+    let mut image = [0u8; image::LARGEST + 1];
     let length = io::read_full(STDIN_FILENO, &mut image);
     let mut words = [0u32; 4096];
     let mut out = [0u8; 86026];

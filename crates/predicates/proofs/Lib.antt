@@ -6,3 +6,4 @@ pub mod Flagging
 pub mod Live
 pub mod Spans
 pub mod Lengths
+pub mod Monotonic

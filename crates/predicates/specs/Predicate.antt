@@ -1,6 +1,6 @@
 -- A predicate's bits and elements. An element of 2 ^ k bits belongs to the size whose `shift` is k.
 use Prim.Native.Nat.{ℕ, _+_, _*_, _/_, _%_, _^_, min}
-use mathlib.Core.Bool.{Bool, false, _&&_}
+use mathlib.Core.Bool.{Bool, false, not, _&&_}
 use mathlib.Core.List.{[], _∷_}
 use lib.Dec.{ltb, leb}
 use lib.ListN.{getD}
@@ -57,3 +57,7 @@ liveOf vl size = spanOf (shift size) 0 (elements vl size)
 -- whether some bit at or above pl is 1
 unfoldable pub hasBitFrom : ℕ → Predicate → Bool
 hasBitFrom pl p = some (λ b. leb pl b && bitAt p b) 256
+
+-- a run of true bits from bit 0, empty or full ones included: no true bit lies above a false one. Arm calls such a predicate monotonic.
+unfoldable pub monotonic : Predicate → Bool
+monotonic p = not (some (λ b. bitAt p b && some (λ below. not (bitAt p below)) b) 256)

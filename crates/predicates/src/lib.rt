@@ -10,7 +10,7 @@ ghost use Rattle.bits.specs.Bits.{testBit, number};
 ghost use Rattle.bits.specs.Choice.{digit};
 ghost use Rattle.bits.specs.Search.{count as countBits, some, firstFrom, afterLast};
 ghost use Rattle.bits.specs.Size.{shift};
-ghost use Rattle.predicates.specs.Predicate.{bitAt, pack, allFalse, active, touched, spread, spanOf, predicateLength, elements as elementsOf, liveOf, hasBitFrom};
+ghost use Rattle.predicates.specs.Predicate.{bitAt, pack, allFalse, active, touched, spread, spanOf, predicateLength, elements as elementsOf, liveOf, hasBitFrom, monotonic};
 ghost use Rattle.predicates.specs.PredTest.{atLowest, atHighest, predTest, nzcv as nzcvOf, flagsOf};
 use bits::Size;
 
@@ -364,6 +364,13 @@ impl Predicate {
         ensures { λ r. ⌜ r ≡ not (hasBitFrom pl self) ⌝ }
     {
         self.and_not(Predicate::first(Size::B, pl)).is_empty()
+    }
+
+    // Whether the bits set are a run from bit 0: then there are as many as the highest one tells.
+    pub fn is_monotonic(self) -> bool
+        ensures { λ r. ⌜ r ≡ monotonic self ⌝ }
+    {
+        self.count() == self.after_highest()
     }
 }
 

@@ -53,19 +53,19 @@ pub has-settings : (vl level : ℕ) → isLength vl ≡ true → level ≤ 3 →
 has-settings vl level e l = rw (e, le-leb level 3 l)
 
 -- a stray bit of some predicate is one of their union
-pub stray-union : (s : State) (u : Predicate) → u ≡ pack (λ b. some (λ r. bitAt (readP s r) b) 16) → hasBitFrom (predicateLength (s .vl)) u ≡ hasStrayBit s
+pub stray-union : (s : State) (u : Predicate) → u ≡ pack (λ b. some (λ r. bitAt (readP s r) b) 17) → hasBitFrom (predicateLength (s .vl)) u ≡ hasStrayBit s
 unfolding hasBitFrom hasStrayBit
 stray-union s u e =
     ap (λ (p : Predicate). some (λ b. leb (predicateLength (s .vl)) b && bitAt p b) 256) e
-    ∙ some-cong _ _ 256 (λ b h. ap (λ (x : Bool). leb (predicateLength (s .vl)) b && x) (pack-bit _ b h) ∙ some-and (leb (predicateLength (s .vl)) b) (λ r. bitAt (readP s r) b) 16)
-    ∙ some-swap (λ b r. leb (predicateLength (s .vl)) b && bitAt (readP s r) b) 16 256
+    ∙ some-cong _ _ 256 (λ b h. ap (λ (x : Bool). leb (predicateLength (s .vl)) b && x) (pack-bit _ b h) ∙ some-and (leb (predicateLength (s .vl)) b) (λ r. bitAt (readP s r) b) 17)
+    ∙ some-swap (λ b r. leb (predicateLength (s .vl)) b && bitAt (readP s r) b) 17 256
 
 -- ---- what a legal state has
 
 pub record Legal (s : State) : Type 0 where
   pub len : isLength (s .vl) ≡ true
   pub level : s .level ≤ 3
-  pub bits : (r : ℕ) → r < 16 → hasBitFrom (predicateLength (s .vl)) (readP s r) ≡ false
+  pub bits : (r : ℕ) → r < 17 → hasBitFrom (predicateLength (s .vl)) (readP s r) ≡ false
 
 lawful : (a c : Bool) → not (not a || c) ≡ true → (a ≡ true) × (c ≡ false)
 lawful true false h = (refl, refl)
@@ -77,12 +77,12 @@ unfolding illegal hasStrayBit
 legal-has s h =
     let (a, c) = lawful (settingsAllowed (s .vl) (s .level)) (hasStrayBit s) h in
     let (e, l) = settings-has (s .vl) (s .level) a in
-    record { len = e; level = l; bits = some-none _ 16 c }
+    record { len = e; level = l; bits = some-none _ 17 c }
 
 pub has-legal : (s : State) → Legal s → legal s ≡ true
 unfolding illegal hasStrayBit
 has-legal s l =
-    ap (λ (a : Bool). not (not a || hasStrayBit s)) (has-settings (s .vl) (s .level) (l .len) (l .level)) ∙ ap not (some-no _ 16 (l .bits))
+    ap (λ (a : Bool). not (not a || hasStrayBit s)) (has-settings (s .vl) (s .level) (l .len) (l .level)) ∙ ap not (some-no _ 17 (l .bits))
 
 -- VL is 128 times a power of two, and so 128 q with q from 1 to 16
 pub powers : (vl : ℕ) → isLength vl ≡ true → (i : ℕ) × (vl ≡ 128 * 2 ^ i) × (i ≤ 4)

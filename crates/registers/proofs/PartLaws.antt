@@ -55,7 +55,7 @@ flags-written l sets f h = sym (ap (λ (b : Bool). pick b (flagsOf f) (flagsFrom
 
 -- ---- legality, from the union of the predicates
 
-pub by-union : (s : State) (b r : Bool) (u : Predicate) (pl : ℕ) → b ≡ settingsAllowed (s .vl) (s .level) → not b ≡ false → u ≡ pack (λ k. some (λ i. bitAt (readP s i) k) 16) → pl ≡ predicateLength (s .vl)
+pub by-union : (s : State) (b r : Bool) (u : Predicate) (pl : ℕ) → b ≡ settingsAllowed (s .vl) (s .level) → not b ≡ false → u ≡ pack (λ k. some (λ i. bitAt (readP s i) k) 17) → pl ≡ predicateLength (s .vl)
     → r ≡ not (hasBitFrom pl u) → r ≡ legal s
 by-union s b r u pl hb n hu hp hr = hr ∙ ap not (ap (λ (k : ℕ). hasBitFrom k u) hp ∙ stray-union s u hu) ∙ allowed s b hb n
 

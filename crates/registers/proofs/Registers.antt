@@ -9,10 +9,10 @@ use Rattle.predicates.specs.declared.Predicate.{Predicate}
 use Rattle.registers.specs.declared.State.{State}
 use Rattle.registers.specs.State.{allFalse, made, readX, readP, withX, withP}
 
--- what every state of the code has: 31 general registers and 16 predicates
+-- what every state of the code has: 31 general registers and 17 predicates
 pub record Sized (s : State) : Type 0 where
   pub xs : length (s .x) ≡ 31
-  pub ps : length (s .p) ≡ 16
+  pub ps : length (s .p) ≡ 17
 
 -- ---- writes past the end vanish
 

@@ -5,7 +5,7 @@ use lib.Dec.{leb, eqb}
 use Rattle.bits.specs.Search.{some}
 use Rattle.predicates.specs.Predicate.{predicateLength, hasBitFrom}
 use Rattle.registers.specs.declared.State.{State}
-use Rattle.registers.specs.State.{readP}
+use Rattle.registers.specs.State.{registerCount, readP}
 
 -- the five vector lengths
 unfoldable pub isLength : ℕ → Bool
@@ -15,9 +15,9 @@ isLength vl = eqb vl 128 || (eqb vl 256 || (eqb vl 512 || (eqb vl 1024 || eqb vl
 abbrev pub settingsAllowed : ℕ → ℕ → Bool
 settingsAllowed vl level = isLength vl && leb level 3
 
--- a predicate register has a bit at or above PL
+-- a predicate register, FFR among them, has a bit at or above PL
 unfoldable pub hasStrayBit : State → Bool
-hasStrayBit s = some (λ r. hasBitFrom (predicateLength (s .vl)) (readP s r)) 16
+hasStrayBit s = some (λ r. hasBitFrom (predicateLength (s .vl)) (readP s r)) registerCount
 
 -- VL not one of the five, level above 3, or a predicate bit at or above PL
 unfoldable pub illegal : State → Bool

@@ -16,7 +16,14 @@ made vl level access flags x p = record { vl = vl; level = level; access = acces
 abbrev pub readX : State → ℕ → ℕ
 readX s r = getD (s .x) r 0
 
--- P0 to P15
+-- FFR, the first-fault register, is predicate register 16; with P0 to P15 before it there are 17
+abbrev pub ffr : ℕ
+ffr = 16
+
+abbrev pub registerCount : ℕ
+registerCount = 17
+
+-- P0 to P15, and FFR
 abbrev pub readP : State → ℕ → Predicate
 readP s r = getD (s .p) r allFalse
 

@@ -1,11 +1,12 @@
 // The register state: reads and writes, and which of its values are legal.
+// FFR, the first-fault register, is predicate register 16, after P0 to P15: reads, writes and legality know it as they know the others. No field of a word can name it.
 // X31, and any number past the last register, reads as zero or all false, and a write to it vanishes. A state is legal unless its vector length is none of the five, its level is above 3,
 // or a predicate has a bit at or above VL/8: reply 4 refuses it. State's methods take the state by value and return it; `parts` has the same over registers lent one by one.
 ghost use mathlib.Core.Path.{_≡_};
 ghost use Rattle.bits.specs.Search.{some};
 ghost use Rattle.predicates.specs.Predicate.{bitAt, pack};
 ghost use lib.ListN.{getD};
-ghost use Rattle.registers.specs.State.{allFalse, made, readX, readP, withX, withP, withFlags};
+ghost use Rattle.registers.specs.State.{allFalse, registerCount, made, readX, readP, withX, withP, withFlags};
 ghost use Rattle.registers.specs.Parts.{settingsOf};
 ghost use Rattle.registers.specs.Legal.{isLength, settingsAllowed, legal};
 
@@ -14,6 +15,11 @@ pub mod parts;
 use parts::Settings;
 use predicates::Flags;
 use predicates::Predicate;
+
+// The number of FFR among the predicate registers.
+pub const FFR: u8 = 16;
+// How many predicate registers there are, FFR the last.
+pub const PREDICATES: usize = 17;
 
 #[repr(C)]
 pub struct State {
@@ -24,7 +30,8 @@ pub struct State {
     pub access: bool,
     pub flags: Flags,
     pub x: [u64; 31],
-    pub p: [Predicate; 16],
+    // P0 to P15, then FFR.
+    pub p: [Predicate; PREDICATES],
 }
 
 impl State {
@@ -35,7 +42,7 @@ impl State {
         access: bool,
         flags: Flags,
         x: [u64; 31],
-        p: [Predicate; 16],
+        p: [Predicate; PREDICATES],
     ) -> State
         ensures { λ s. ⌜ s ≡ made vl level access flags x p ⌝ }
     {
@@ -68,12 +75,12 @@ impl State {
         if i < 31 { self.x[i] } else { 0 }
     }
 
-    // P0 to P15; number 16 and above read as all false.
+    // P0 to P15, and FFR by number 16; number 17 and above read as all false.
     pub fn read_p(self, r: u64) -> Predicate
         ensures { λ q. ⌜ q ≡ readP self r ⌝ }
     {
         let i = r as usize;
-        if i < 16 {
+        if i < PREDICATES {
             return self.p[i];
         }
         Predicate::none()
@@ -90,12 +97,12 @@ impl State {
         self
     }
 
-    // The state with Pr anew; a write past P15 vanishes.
+    // The state with Pr anew, or FFR by number 16; a write past it vanishes.
     pub fn with_p(mut self, r: u64, q: Predicate) -> State
         ensures { λ s. ⌜ s ≡ withP self r q ⌝ }
     {
         let i = r as usize;
-        if i < 16 {
+        if i < PREDICATES {
             self.p[i] = q;
         }
         self
@@ -109,7 +116,7 @@ impl State {
         self
     }
 
-    // Whether reply 4 does not refuse the state. The predicates are joined first, so that one test serves all sixteen.
+    // Whether reply 4 does not refuse the state. The predicates are joined first, so that one test serves all.
     pub fn is_legal(self) -> bool
         ensures { λ r. ⌜ r ≡ legal self ⌝ }
     {
@@ -151,12 +158,12 @@ pub fn settings_allowed(vl: u64, level: u8) -> bool
 }
 
 // The bits that any of the predicates has.
-fn union(p: [Predicate; 16]) -> Predicate
-    ensures { λ q. ⌜ q ≡ pack (λ b. some (λ r. bitAt (getD p r allFalse) b) 16) ⌝ }
+fn union(p: [Predicate; PREDICATES]) -> Predicate
+    ensures { λ q. ⌜ q ≡ pack (λ b. some (λ r. bitAt (getD p r allFalse) b) registerCount) ⌝ }
 {
     let mut q = Predicate::none();
     let mut i = 0;
-    while i < 16 {
+    while i < PREDICATES {
         let next = p[i];
         q = next.or(q);
         i += 1;

@@ -1,4 +1,5 @@
 // The parts of a register state, each lent: reads and writes where they stand.
+use super::PREDICATES;
 use super::State;
 use predicates::Flags;
 use predicates::Predicate;
@@ -12,6 +13,7 @@ ghost use Rattle.bits.specs.Search.{some};
 ghost use Rattle.predicates.specs.Predicate.{bitAt, pack, allFalse};
 ghost use Rattle.predicates.specs.PredTest.{flagsOf};
 ghost use Rattle.registers.specs.Legal.{legal};
+ghost use Rattle.registers.specs.State.{registerCount};
 ghost use Rattle.registers.specs.Parts.{predicatesOf, flagsFrom, stateAt};
 
 // What no instruction changes.
@@ -82,11 +84,11 @@ pub fn put_flags(flags: &mut [bool; 4], sets: bool, nzcv: u64)
 
 // The bits that any of the predicates has.
 fn union(p: &[[u64; 4]]) -> Predicate
-    ensures { λ q. ⌜ q ≡ pack (λ b. some (λ r. bitAt (getD (predicatesOf (now (p .entry))) r allFalse) b) 16) ⌝ }
+    ensures { λ q. ⌜ q ≡ pack (λ b. some (λ r. bitAt (getD (predicatesOf (now (p .entry))) r allFalse) b) registerCount) ⌝ }
 {
     let mut q = Predicate::none();
     let mut i = 0;
-    while i < 16 {
+    while i < PREDICATES as u64 {
         let one = p_at(p, i);
         q = one.or(q);
         i += 1;
@@ -105,12 +107,12 @@ pub fn is_legal(settings: Settings, p: &[[u64; 4]]) -> bool
 }
 
 // Each predicate by its words.
-pub fn words_of(p: [Predicate; 16]) -> [[u64; 4]; 16]
+pub fn words_of(p: [Predicate; PREDICATES]) -> [[u64; 4]; PREDICATES]
     ensures { λ r. ⌜ predicatesOf r ≡ p ⌝ }
 {
-    let mut r = [[0u64; 4]; 16];
+    let mut r = [[0u64; 4]; PREDICATES];
     let mut i = 0;
-    while i < 16 {
+    while i < PREDICATES {
         let q = p[i];
         let words = q.words;
         r[i] = words;
@@ -120,12 +122,12 @@ pub fn words_of(p: [Predicate; 16]) -> [[u64; 4]; 16]
 }
 
 // The predicates of these words.
-pub fn predicates_of(p: [[u64; 4]; 16]) -> [Predicate; 16]
+pub fn predicates_of(p: [[u64; 4]; PREDICATES]) -> [Predicate; PREDICATES]
     ensures { λ r. ⌜ r ≡ predicatesOf p ⌝ }
 {
-    let mut r = [Predicate { words: [0; 4] }; 16];
+    let mut r = [Predicate { words: [0; 4] }; PREDICATES];
     let mut i = 0;
-    while i < 16 {
+    while i < PREDICATES {
         let words = p[i];
         r[i] = Predicate { words };
         i += 1;
@@ -153,7 +155,12 @@ pub fn flags_of(bits: [bool; 4]) -> Flags
 }
 
 // The state of these parts.
-pub fn state_of(settings: Settings, flags: [bool; 4], x: [u64; 31], p: [[u64; 4]; 16]) -> State
+pub fn state_of(
+    settings: Settings,
+    flags: [bool; 4],
+    x: [u64; 31],
+    p: [[u64; 4]; PREDICATES],
+) -> State
     ensures { λ s. ⌜ s ≡ stateAt settings flags x p ⌝ }
 {
     State::new(

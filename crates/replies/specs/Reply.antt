@@ -21,6 +21,7 @@ numberOf R.BadWalkRegisters = 10
 numberOf R.ListTooShort = 11
 numberOf R.BudgetSpent = 12
 numberOf R.UnsupportedForm = 13
+numberOf R.NotMonotonic = 14
 
 -- nothing was refused
 abbrev pub isDone : Reply → Bool

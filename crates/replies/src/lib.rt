@@ -1,4 +1,4 @@
-// The replies: what a request is answered with, and the number of each, 0 to 13. 0 is done; every other refuses the request, and all but 12 then leave
+// The replies: what a request is answered with, and the number of each, 0 to 14. 0 is done; every other refuses the request, and all but 12 then leave
 // the state and lent memory as they were.
 ghost use mathlib.Core.Path.{_≡_};
 ghost use Rattle.replies.specs.Reply.{numberOf, isDone};
@@ -21,6 +21,8 @@ pub enum Reply {
     BudgetSpent,
     // The word's bits 31:24 are 00100101, but its form is none of ours.
     UnsupportedForm,
+    // WRFFR's operand is not a run of ones from bit 0.
+    NotMonotonic,
 }
 
 impl Reply {
@@ -43,6 +45,7 @@ impl Reply {
             Reply::ListTooShort => 11,
             Reply::BudgetSpent => 12,
             Reply::UnsupportedForm => 13,
+            Reply::NotMonotonic => 14,
         }
     }
 

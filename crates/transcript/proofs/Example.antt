@@ -19,8 +19,8 @@ use Rattle.machine.specs.Execute.{apply, executeOf}
 use Rattle.machine.specs.Step.{afterWord, stepOf}
 use Rattle.octets.specs.Bytes.{value, parts}
 use Rattle.image.specs.Sections.{setting, sections, sectionReply, orElse, sectionsReply, startOf}
-use Rattle.image.specs.Reading.{flagsIn, predicateOf, imageReply, stateOf, wordsOf}
-use Rattle.image.proofs.Example.{image}
+use Rattle.image.specs.Reading.{flagsIn, predicateOf, ffrIn, imageReply, stateOf, wordsOf}
+use Rattle.image.proofs.Example.{image, old}
 use Rattle.report.specs.Lines.{symbol, digits, decimalIn, flagDigits, wordLine, endLine, imageLine}
 use Rattle.transcript.specs.Transcript.{linesOf, transcriptOf, afterAll, placedAll, text}
 use Rattle.transcript.proofs.Texts.{transcribed}
@@ -34,8 +34,13 @@ wanted =
 
 -- with the list of 4,096 places that the program lends
 pub example : text (transcriptOf 4096 image) ≡ wanted
-unfolding transcriptOf linesOf text value parts setting sections sectionReply orElse sectionsReply startOf flagsIn predicateOf imageReply stateOf wordsOf wordLine endLine flagDigits decimalIn digits symbol testBit number elementBit count some afterLast scan bitAt pack active spread elements predicateLength hasBitFrom atLowest atHighest predTest nzcv flagsOf isLength hasStrayBit illegal withX withP withFlags readBy operandAt comparison allHeld whileElement counterOf counterFlags whileOneOf whilePairOf whileCounterOf pnextOf computeOf apply executeOf afterWord stepOf
+unfolding transcriptOf linesOf text value parts setting sections sectionReply orElse sectionsReply startOf flagsIn predicateOf ffrIn imageReply stateOf wordsOf wordLine endLine flagDigits decimalIn digits symbol testBit number elementBit count some afterLast scan bitAt pack active spread elements predicateLength hasBitFrom atLowest atHighest predTest nzcv flagsOf isLength hasStrayBit illegal withX withP withFlags readBy operandAt comparison allHeld whileElement counterOf counterFlags whileOneOf whilePairOf whileCounterOf pnextOf computeOf apply executeOf afterWord stepOf
 example = refl
+
+-- the same of the old image of that state and those words, which has no FFR
+pub old-example : text (transcriptOf 4096 old) ≡ wanted
+unfolding transcriptOf linesOf text value parts setting sections sectionReply orElse sectionsReply startOf flagsIn predicateOf ffrIn imageReply stateOf wordsOf wordLine endLine flagDigits decimalIn digits symbol testBit number elementBit count some afterLast scan bitAt pack active spread elements predicateLength hasBitFrom atLowest atHighest predTest nzcv flagsOf isLength hasStrayBit illegal withX withP withFlags readBy operandAt comparison allHeld whileElement counterOf counterFlags whileOneOf whilePairOf whileCounterOf pnextOf computeOf apply executeOf afterWord stepOf
+old-example = refl
 
 -- in every buffer that is long enough for all images
 pub written : (out : List ℕ) → 86026 ≤ length out → (afterAll (transcriptOf 4096 image) 0 (length out) ≡ 60) × (placedAll (transcriptOf 4096 image) 0 out ≡ wanted ++ drop 60 out)

@@ -124,13 +124,13 @@ module _ (rest end image list filled : List ℕ) (r : Reading) (n b m : ℕ) (ro
         again = λ w. absurd (t (em ∙ sym same-number ∙ w));
       }
 
-  pub image-agrees : (ws : List ℕ) → m ≡ 0 → ws ≡ take (r .count) filled → imageOf (r .state) ws ≡ image → ImageAgrees rest
-  image-agrees ws z ews h =
+  pub image-agrees : (ws past back : List ℕ) → m ≡ 0 → ws ≡ take (r .count) filled → past ≡ pastBlock end → back ≡ block past → imageOf (r .state) ws ≡ back → ImageAgrees rest
+  image-agrees ws past back z ews ep ek h =
       let nought : numberOf (r .reply) ≡ 0 = sym em ∙ z in
       record {
         reply = same-number ∙ sym en ∙ tb ∙ eb;
         again = λ w. ap (λ (l : List ℕ). imageOf (stateOf l) (wordsOf l)) same-image
-            ∙ sym (ap₂ imageOf (state-read image list r er nought) (ews ∙ words-read image list r er nought filled ef)) ∙ h ∙ sym same-image;
+            ∙ sym (ap₂ imageOf (state-read image list r er nought) (ews ∙ words-read image list r er nought filled ef)) ∙ h ∙ ek ∙ ap block (ep ∙ ap pastBlock ee);
       }
 
 -- ---- a walk

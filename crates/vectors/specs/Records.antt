@@ -39,11 +39,11 @@ pub record RunAgrees (rest : List ℕ) : Type 0 where
   pub done : ranOf rest .done ≡ numberAt 2 4 (pastBlock rest)
   pub after : imageOf (ranOf rest .state) [] ≡ block (drop 6 (pastBlock rest))
 
--- ---- an image: reply (1), the image
+-- ---- an image: reply (1), the image, the image that it is written back as
 
 pub record ImageAgrees (rest : List ℕ) : Type 0 where
   pub reply : numberOf (readOf 4096 (block (drop 1 rest)) .reply) ≡ getD rest 0 0
-  pub again : Whole (block (drop 1 rest)) → imageOf (stateOf (block (drop 1 rest))) (wordsOf (block (drop 1 rest))) ≡ block (drop 1 rest)
+  pub again : Whole (block (drop 1 rest)) → imageOf (stateOf (block (drop 1 rest))) (wordsOf (block (drop 1 rest))) ≡ block (pastBlock (drop 1 rest))
 
 -- ---- a walk: an image; size, n, m, d, k (1 each), places (4), budget (8), reply (1), count (8), visited (4), the image after, the list after
 

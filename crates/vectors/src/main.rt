@@ -15,7 +15,7 @@ use registers::State;
 
 // The image of a state and words; the reply (1 byte), the number of words done (4), the image of the state after.
 const RUN: u8 = 1;
-// The reply (1 byte), and an image, damaged or not.
+// The reply (1 byte), an image, damaged or not, and the image that it is written back as, empty if it is refused.
 const IMAGE: u8 = 2;
 // The image of a state; size, n, m, d, k (1 byte each), places (4), budget (8), reply (1), count (8), visited (4); the image of the state
 // after, and the list after (8 bytes a place).
@@ -39,13 +39,13 @@ struct Tally {
 }
 
 fn main() {
-    judge([0; 720000]);
+    judge([0; 900000]);
 }
 
 // Reads into the bytes handed in, which are more than the input may have.
-fn judge(mut bytes: [u8; 720000]) {
+fn judge(mut bytes: [u8; 900000]) {
     let length = io::read_full(STDIN_FILENO, &mut bytes);
-    if length == 720000 {
+    if length == 900000 {
         io::write_all(STDOUT_FILENO, b"the input is too long\n");
         return;
     }
@@ -232,7 +232,11 @@ fn run_is_whole(rest: &[u8]) -> bool {
 }
 
 fn image_is_whole(rest: &[u8]) -> bool {
-    let end = octets::after(rest, 1);
+    let image = octets::after(rest, 1);
+    if !has_block(image) {
+        return false;
+    }
+    let end = past_block(image);
     if !has_block(end) {
         return false;
     }
@@ -303,9 +307,9 @@ fn run_agrees(rest: &[u8]) -> bool
 fn image_agrees(rest: &[u8]) -> bool
     ensures { λ r. ⌜ (r ≡ true → ImageAgrees (now (rest .entry))) ⌝ }
 {
-    let image = block(octets::after(rest, 1));
+    let given = octets::after(rest, 1);
     let mut words = [0u32; 4096];
-    let reading = image::read(image, &mut words);
+    let reading = image::read(block(given), &mut words);
     let reply = reading.reply;
     if reply.number() != octets::byte(rest, 0) {
         return false;
@@ -315,7 +319,7 @@ fn image_agrees(rest: &[u8]) -> bool
     }
     let count = reading.count;
     let state = reading.state;
-    image_is(state, first_words(&words, count), image)
+    image_is(state, first_words(&words, count), block(past_block(given)))
 }
 
 fn walk_agrees(rest: &[u8]) -> bool
@@ -384,7 +388,7 @@ fn register(bs: &[u8], i: usize) -> u32
 fn image_is(state: State, words: &[u32], image: &[u8]) -> bool
     ensures { λ r. ⌜ (r ≡ true → imageOf state (now (words .entry)) ≡ now (image .entry)) ⌝ }
 {
-    let mut buffer = [0u8; 17171];
+    let mut buffer = [0u8; image::LARGEST];
     let written = image::write(state, words, &mut buffer);
     let reply = written.reply;
     if reply.number() != 0 {

@@ -39,7 +39,7 @@ not-false false e = sym e
 -- what the types of a call's arguments say of its state
 pub record Typed (s : State) : Type 0 where
   pub xs : length (s .x) ≡ 31
-  pub ps : length (s .p) ≡ 16
+  pub ps : length (s .p) ≡ 17
   pub fits : (i : ℕ) → readX s i < 2 ^ 64
 
 pub x-fits : (s : State) → ((i : ℕ) → Fits w64 (getD (s .x) i 0)) → (i : ℕ) → readX s i < 2 ^ 64
@@ -54,7 +54,7 @@ pub record Within (size : Size) (n m d k : ℕ) (s : State) (l : List ℕ) : Typ
   pub k-below : k < 16
   pub other-p : d ≡ k → ⊥
   pub xs : length (s .x) ≡ 31
-  pub ps : length (s .p) ≡ 16
+  pub ps : length (s .p) ≡ 17
   pub lanes : 0 < elements (s .vl) size
   pub start-fits : readX s n < 2 ^ 64
   pub limit-fits : readX s m < 2 ^ 64
@@ -64,6 +64,17 @@ lanes-there : (s : State) (size : Size) → legal s ≡ true → 0 < elements (s
 lanes-there s size h =
     let q = quads (s .vl) (legal-has s h .len) in
     rw (q .1) (elements-pos (q .0) size (q .2) (q .3))
+
+-- Pd and Pk are two of P0 to P15
+pub p-below : (size n m d k : ℕ) (s : State) (places : ℕ) → refusalOf size n m d k s places ≡ R.Done → (d < 16) × (k < 16)
+unfolding refusalOf badRegisters
+p-below size n m d k s places e =
+    let a = past (not (legal s)) R.IllegalState _ (omega arith) e in
+    let b = past (badRegisters size n m d k) R.BadWalkRegisters _ (omega arith) (a .1) in
+    let m₁ = neither (ltb 31 m) _ (neither (ltb 31 n) _ (b .0) .1) in
+    let d₁ = neither (ltb 15 d) _ (m₁ .1) in
+    let k₁ = neither (ltb 15 k) _ (d₁ .1) in
+    (omega (arith, ltb-false 15 d (d₁ .0)), omega (arith, ltb-false 15 k (k₁ .0)))
 
 pub accepted-within : (size n m d k : ℕ) (s : State) (l : List ℕ) → Typed s → refusalOf size n m d k s (length l) ≡ R.Done → Within (sizeOf size) n m d k s l
 unfolding refusalOf badRegisters

@@ -54,6 +54,10 @@ module _ (size n m d k budget : ℕ) (s : State) (l : List ℕ) where
   unfolding walkOf
   answer-accepted e = ap (λ (r : Reply). pick (isDone r) (walked (wholeOf size n m d k budget s l)) (record { reply = r; count = 0; visited = 0; state = s })) e ∙ ap walked (whole-accepted e)
 
+  pub answer-refused : isDone (refusalOf size n m d k s (length l)) ≡ false → walkOf size n m d k budget s l ≡ record { reply = refusalOf size n m d k s (length l); count = 0; visited = 0; state = s }
+  unfolding walkOf
+  answer-refused e = ap (λ (b : Bool). pick b (walked (wholeOf size n m d k budget s l)) refusal) e
+
   pub accepted : {after : List ℕ} {r : Walked} → r ≡ walked (plainWalk (sizeOf size) n m d k budget s l) → after ≡ plainWalk (sizeOf size) n m d k budget s l .list
       → Typed s → refusalOf size n m d k s (length l) ≡ Done → Answers after r
   accepted er el typed e = (

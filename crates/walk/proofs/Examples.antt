@@ -36,7 +36,7 @@ start vl x1 x2 = record {
   access = true;
   flags = flagsOf 0;
   x = set (set (replicate 31 0) 1 x1) 2 x2;
-  p = replicate 16 allFalse;
+  p = replicate 17 allFalse;
 }
 
 -- bytes, X1 to X2, lanes P0, cursor P1, at least 37 places: nothing is refused

@@ -41,7 +41,7 @@ abbrev writing : ℕ → ℕ → ℕ → ℕ → ℕ → ℕ → ℕ → Bool �
 writing a b g p q rd pd sets = record { rn = a; rm = b; pg = g; pn = p; pm = q; rd = rd; pd = pd; pd2 = none; flags = sets }
 
 module _ (s : State) (z : Sized s) (a b g p q : ℕ) where
-  no-p : (t : State) → length (t .p) ≡ 16 → withP t none allFalse ≡ t
+  no-p : (t : State) → length (t .p) ≡ 17 → withP t none allFalse ≡ t
   no-p t e = sym (withP-out t none allFalse (omega (arith, e)))
 
   writes-x : (r v : ℕ) → apply s (writing a b g p q r none false) (givesX v) ≡ withX s r v

@@ -10,4 +10,5 @@ pub mod Turns
 pub mod Loop
 pub mod Answered
 pub mod Lengths
+pub mod Untouched
 pub mod Examples

@@ -21,7 +21,7 @@ use Rattle.words.specs.declared.Target.the-variants.{One, Pair, Counter}
 use Rattle.words.specs.declared.Operation.{Operation}
 use Rattle.words.specs.declared.Operation.the-variants.{And, Bic, Eor, Sel, Orr, Orn, Nor, Nand}
 use Rattle.words.specs.declared.Instruction.{Instruction}
-use Rattle.words.specs.declared.Instruction.the-variants.{While, Saturating, IncDec, Cntp, CntpCounter, Pnext, Pfirst, Ptest, Pfalse, Logic}
+use Rattle.words.specs.declared.Instruction.the-variants.{While, Saturating, IncDec, Cntp, CntpCounter, Pnext, Pfirst, Ptest, Pfalse, Logic, Setffr, Wrffr, Rdffr, RdffrPg, RdffrsPg}
 
 flag-digit : (b : Bool) → flag (digit b) ≡ b
 flag-digit true = refl
@@ -68,6 +68,11 @@ build-fields (Pfirst pg pdn) = refl
 build-fields (Ptest pg pn) = refl
 build-fields (Pfalse pd) = refl
 build-fields (Logic o s pm pg pn pd) = simp building
+build-fields Setffr = refl
+build-fields (Wrffr pn) = refl
+build-fields (Rdffr pd) = refl
+build-fields (RdffrPg pg pd) = refl
+build-fields (RdffrsPg pg pd) = refl
 
 digit-flag : (n : ℕ) → n < 2 → digit (flag n) ≡ n
 digit-flag zero h = refl
@@ -152,7 +157,12 @@ read-back (suc (suc (suc (suc (suc (suc (suc (suc zero)))))))) w l = refl
 read-back (suc (suc (suc (suc (suc (suc (suc (suc (suc zero))))))))) w l = refl
 read-back (suc (suc (suc (suc (suc (suc (suc (suc (suc (suc zero)))))))))) w l = refl
 read-back (suc (suc (suc (suc (suc (suc (suc (suc (suc (suc (suc zero))))))))))) w l = simp reading-back
-read-back (suc (suc (suc (suc (suc (suc (suc (suc (suc (suc (suc (suc n)))))))))))) w l = absurd (omega arith)
+read-back (suc (suc (suc (suc (suc (suc (suc (suc (suc (suc (suc (suc zero)))))))))))) w l = refl
+read-back (suc (suc (suc (suc (suc (suc (suc (suc (suc (suc (suc (suc (suc zero))))))))))))) w l = refl
+read-back (suc (suc (suc (suc (suc (suc (suc (suc (suc (suc (suc (suc (suc (suc zero)))))))))))))) w l = refl
+read-back (suc (suc (suc (suc (suc (suc (suc (suc (suc (suc (suc (suc (suc (suc (suc zero))))))))))))))) w l = refl
+read-back (suc (suc (suc (suc (suc (suc (suc (suc (suc (suc (suc (suc (suc (suc (suc (suc zero)))))))))))))))) w l = refl
+read-back (suc (suc (suc (suc (suc (suc (suc (suc (suc (suc (suc (suc (suc (suc (suc (suc (suc n))))))))))))))))) w l = absurd (omega arith)
 
 -- an instruction's form is one of the table
 pub number-lt : (i : Instruction) → getD (numbersOf i) 0 0 < length forms
@@ -168,6 +178,11 @@ number-lt (Pfirst pg pdn) = omega arith
 number-lt (Ptest pg pn) = omega arith
 number-lt (Pfalse pd) = omega arith
 number-lt (Logic o s pm pg pn pd) = omega arith
+number-lt Setffr = omega arith
+number-lt (Wrffr pn) = omega arith
+number-lt (Rdffr pd) = omega arith
+number-lt (RdffrPg pg pd) = omega arith
+number-lt (RdffrsPg pg pd) = omega arith
 
 -- the level of an instruction that is known by its form, and of a WHILE that is known by its target
 pub level-is : {i j : Instruction} {n : ℕ} → i ≡ j → n ≡ levelOf j → n ≡ levelOf i

@@ -13,7 +13,7 @@ use Rattle.scalars.specs.declared.Condition.{Condition}
 use Rattle.words.specs.declared.Target.{Target}
 use Rattle.words.specs.declared.Target.the-variants.{One, Pair, Counter}
 use Rattle.words.specs.declared.Instruction.{Instruction}
-use Rattle.words.specs.declared.Instruction.the-variants.{While, Saturating, IncDec, Cntp, CntpCounter, Pnext, Pfirst, Ptest, Pfalse, Logic}
+use Rattle.words.specs.declared.Instruction.the-variants.{While, Saturating, IncDec, Cntp, CntpCounter, Pnext, Pfirst, Ptest, Pfalse, Logic, Setffr, Wrffr, Rdffr, RdffrPg, RdffrsPg}
 
 -- the row of an instruction that is known by its form, and of a WHILE that is known by its target
 pub row-as : {i j : Instruction} {row : List ℕ} → i ≡ j → row ≡ rowOf j → row ≡ rowOf i
@@ -42,6 +42,11 @@ row-encoded (Pfirst pg pdn) = refl
 row-encoded (Ptest pg pn) = refl
 row-encoded (Pfalse pd) = refl
 row-encoded (Logic o s pm pg pn pd) = refl
+row-encoded Setffr = refl
+row-encoded (Wrffr pn) = refl
+row-encoded (Rdffr pd) = refl
+row-encoded (RdffrPg pg pd) = refl
+row-encoded (RdffrsPg pg pd) = refl
 
 -- the answers that C has, once it is known what a word is, and how a row is written
 pub to-word : (w : ℕ) {n : ℕ} {d e : Decoded} → d ≡ decodeOf w → d ≡ e → n ≡ replyTo e → n ≡ decodedReply w

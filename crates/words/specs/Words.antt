@@ -21,7 +21,7 @@ use Rattle.words.specs.declared.Target.the-variants.{One, Pair, Counter}
 use Rattle.words.specs.declared.Operation.{Operation}
 use Rattle.words.specs.declared.Operation.the-variants.{And, Bic, Eor, Sel, Orr, Orn, Nor, Nand}
 use Rattle.words.specs.declared.Instruction.{Instruction}
-use Rattle.words.specs.declared.Instruction.the-variants.{While, Saturating, IncDec, Cntp, CntpCounter, Pnext, Pfirst, Ptest, Pfalse, Logic}
+use Rattle.words.specs.declared.Instruction.the-variants.{While, Saturating, IncDec, Cntp, CntpCounter, Pnext, Pfirst, Ptest, Pfalse, Logic, Setffr, Wrffr, Rdffr, RdffrPg, RdffrsPg}
 use Rattle.words.specs.declared.Decoded.{Decoded}
 use Rattle.words.specs.declared.Decoded.the-variants as Dec
 use Rattle.words.specs.declared.Encoded.{Encoded}
@@ -178,9 +178,51 @@ logicForm = record {
   build = given 8 (λ op s pm pg o2 pn o3 pd. Logic (operationOf (operationBits op o2 o3)) (flag s) pm pg pn pd);
 }
 
+-- the forms on FFR, fixed words plus fields
+abbrev pub setffrForm : Form
+setffrForm = record {
+  layout = upper 0 0x252C9000 ∷ [];
+  level = always 1;
+  allowed = always true;
+  build = always Setffr;
+}
+
+abbrev pub wrffrForm : Form
+wrffrForm = record {
+  layout = upper 9 0x25289000 ∷ Pn 4 ∷ fixed 5 0b00000 ∷ [];
+  level = always 1;
+  allowed = always true;
+  build = given 1 (λ pn. Wrffr pn);
+}
+
+abbrev pub rdffrForm : Form
+rdffrForm = record {
+  layout = upper 4 0x2519F000 ∷ Pd 4 ∷ [];
+  level = always 1;
+  allowed = always true;
+  build = given 1 (λ pd. Rdffr pd);
+}
+
+abbrev pub rdffrPgForm : Form
+rdffrPgForm = record {
+  layout = upper 9 0x2518F000 ∷ Pg 4 ∷ fixed 1 0b0 ∷ Pd 4 ∷ [];
+  level = always 1;
+  allowed = always true;
+  build = given 2 (λ pg pd. RdffrPg pg pd);
+}
+
+abbrev pub rdffrsPgForm : Form
+rdffrsPgForm = record {
+  layout = upper 9 0x2558F000 ∷ Pg 4 ∷ fixed 1 0b0 ∷ Pd 4 ∷ [];
+  level = always 1;
+  allowed = always true;
+  build = given 2 (λ pg pd. RdffrsPg pg pd);
+}
+
 -- the table; a form's number is its place
 abbrev pub forms : List Form
-forms = whileOneForm ∷ whilePairForm ∷ whileCounterForm ∷ saturatingForm ∷ incDecForm ∷ cntpForm ∷ cntpCounterForm ∷ pnextForm ∷ pfirstForm ∷ ptestForm ∷ pfalseForm ∷ logicForm ∷ []
+forms = whileOneForm ∷ whilePairForm ∷ whileCounterForm ∷ saturatingForm ∷ incDecForm ∷ cntpForm ∷ cntpCounterForm ∷ pnextForm ∷ pfirstForm ∷ ptestForm ∷ pfalseForm ∷ logicForm
+    ∷ setffrForm ∷ wrffrForm ∷ rdffrForm ∷ rdffrPgForm ∷ rdffrsPgForm ∷ []
 
 -- the form of a number below the table's length
 abbrev pub formAt : ℕ → Form
@@ -205,6 +247,11 @@ numbersOf (Pfalse pd) = 10 ∷ pd ∷ []
 numbersOf (Logic o s pm pg pn pd) =
     let n = operationNumber o in
     11 ∷ n / 4 % 2 ∷ digit s ∷ pm ∷ pg ∷ n / 2 % 2 ∷ pn ∷ n % 2 ∷ pd ∷ []
+numbersOf Setffr = 12 ∷ []
+numbersOf (Wrffr pn) = 13 ∷ pn ∷ []
+numbersOf (Rdffr pd) = 14 ∷ pd ∷ []
+numbersOf (RdffrPg pg pd) = 15 ∷ pg ∷ pd ∷ []
+numbersOf (RdffrsPg pg pd) = 16 ∷ pg ∷ pd ∷ []
 
 abbrev pub formOf : Instruction → Form
 formOf i = formAt (getD (numbersOf i) 0 0)

@@ -97,6 +97,22 @@ pub enum Instruction {
         pn: u8,
         pd: u8,
     },
+    // The first-fault register: set, written, read, read under a mask without flags and with them.
+    Setffr,
+    Wrffr {
+        pn: u8,
+    },
+    Rdffr {
+        pd: u8,
+    },
+    RdffrPg {
+        pg: u8,
+        pd: u8,
+    },
+    RdffrsPg {
+        pg: u8,
+        pd: u8,
+    },
 }
 
 // What a word is.
@@ -141,5 +157,10 @@ pub fn level(i: Instruction) -> u8
         Instruction::Ptest { .. } => 1,
         Instruction::Pfalse { .. } => 1,
         Instruction::Logic { .. } => 1,
+        Instruction::Setffr => 1,
+        Instruction::Wrffr { .. } => 1,
+        Instruction::Rdffr { .. } => 1,
+        Instruction::RdffrPg { .. } => 1,
+        Instruction::RdffrsPg { .. } => 1,
     }
 }

@@ -9,7 +9,7 @@ use scalars::Condition;
 ghost use mathlib.Core.Path.{_≡_};
 ghost use lib.ListN.{drop};
 ghost use Rattle.words.specs.Layout.{slice};
-ghost use Rattle.words.specs.Words.{whileOneForm, whilePairForm, whileCounterForm, saturatingForm, incDecForm, cntpForm, cntpCounterForm, pnextForm, pfirstForm, ptestForm, pfalseForm, logicForm, conditionOf, sizeOf, operationBits, operationOf, flag, forms, instructionIn, hasOpcode, readBy, decodeOf};
+ghost use Rattle.words.specs.Words.{whileOneForm, whilePairForm, whileCounterForm, saturatingForm, incDecForm, cntpForm, cntpCounterForm, pnextForm, pfirstForm, ptestForm, pfalseForm, logicForm, setffrForm, wrffrForm, rdffrForm, rdffrPgForm, rdffrsPgForm, conditionOf, sizeOf, operationBits, operationOf, flag, forms, instructionIn, hasOpcode, readBy, decodeOf};
 ghost use Rattle.words.specs.Inside.{tests};
 
 // Size 00 to 11; a larger number is taken for 11.
@@ -301,6 +301,70 @@ fn read_logic(w: u32) -> Instruction
     }
 }
 
+fn is_setffr(w: u32) -> bool
+    ensures { λ r. ⌜ r ≡ tests setffrForm w ⌝ }
+{
+    w == 0x252C9000
+}
+
+fn is_wrffr(w: u32) -> bool
+    ensures { λ r. ⌜ r ≡ tests wrffrForm w ⌝ }
+{
+    ((w >> 9) % (1 << 23) == 0x25289000 >> 9) & ((w >> 0) % 32 == 0b00000)
+}
+
+fn read_wrffr(w: u32) -> Instruction
+    ensures { λ r. ⌜ r ≡ instructionIn wrffrForm w ⌝ }
+{
+    Instruction::Wrffr {
+        pn: ((w >> 5) % 16) as u8,
+    }
+}
+
+fn is_rdffr(w: u32) -> bool
+    ensures { λ r. ⌜ r ≡ tests rdffrForm w ⌝ }
+{
+    (w >> 4) % (1 << 28) == 0x2519F000 >> 4
+}
+
+fn read_rdffr(w: u32) -> Instruction
+    ensures { λ r. ⌜ r ≡ instructionIn rdffrForm w ⌝ }
+{
+    Instruction::Rdffr {
+        pd: ((w >> 0) % 16) as u8,
+    }
+}
+
+fn is_rdffr_pg(w: u32) -> bool
+    ensures { λ r. ⌜ r ≡ tests rdffrPgForm w ⌝ }
+{
+    ((w >> 9) % (1 << 23) == 0x2518F000 >> 9) & ((w >> 4) % 2 == 0b0)
+}
+
+fn read_rdffr_pg(w: u32) -> Instruction
+    ensures { λ r. ⌜ r ≡ instructionIn rdffrPgForm w ⌝ }
+{
+    Instruction::RdffrPg {
+        pg: ((w >> 5) % 16) as u8,
+        pd: ((w >> 0) % 16) as u8,
+    }
+}
+
+fn is_rdffrs_pg(w: u32) -> bool
+    ensures { λ r. ⌜ r ≡ tests rdffrsPgForm w ⌝ }
+{
+    ((w >> 9) % (1 << 23) == 0x2558F000 >> 9) & ((w >> 4) % 2 == 0b0)
+}
+
+fn read_rdffrs_pg(w: u32) -> Instruction
+    ensures { λ r. ⌜ r ≡ instructionIn rdffrsPgForm w ⌝ }
+{
+    Instruction::RdffrsPg {
+        pg: ((w >> 5) % 16) as u8,
+        pd: ((w >> 0) % 16) as u8,
+    }
+}
+
 // Whether bits 31:24 are those of all our words.
 fn has_opcode(w: u32) -> bool
     ensures { λ r. ⌜ r ≡ hasOpcode w ⌝ }
@@ -327,7 +391,7 @@ fn decode_count(w: u32) -> Decoded
     decode_predicate(w)
 }
 
-// The forms on predicates alone; no other form is ours.
+// The forms on predicates alone.
 fn decode_predicate(w: u32) -> Decoded
     ensures { λ r. ⌜ r ≡ readBy (drop 7 forms) w ⌝ }
 {
@@ -345,6 +409,28 @@ fn decode_predicate(w: u32) -> Decoded
     }
     if is_logic(w) {
         return Decoded::Ours(read_logic(w));
+    }
+    decode_ffr(w)
+}
+
+// The forms on FFR; no other form is ours.
+fn decode_ffr(w: u32) -> Decoded
+    ensures { λ r. ⌜ r ≡ readBy (drop 12 forms) w ⌝ }
+{
+    if is_setffr(w) {
+        return Decoded::Ours(Instruction::Setffr);
+    }
+    if is_wrffr(w) {
+        return Decoded::Ours(read_wrffr(w));
+    }
+    if is_rdffr(w) {
+        return Decoded::Ours(read_rdffr(w));
+    }
+    if is_rdffr_pg(w) {
+        return Decoded::Ours(read_rdffr_pg(w));
+    }
+    if is_rdffrs_pg(w) {
+        return Decoded::Ours(read_rdffrs_pg(w));
     }
     // Two returns: one, with a reply that is computed before it, would slow the reading of every word.
     if has_opcode(w) {

@@ -152,5 +152,10 @@ pub fn row_of(i: Instruction) -> [u8; 9]
             pn,
             pd,
         } => logic_row(operation, flags, pm, pg, pn, pd),
+        Instruction::Setffr => [12, 0, 0, 0, 0, 0, 0, 0, 0],
+        Instruction::Wrffr { pn } => [13, pn, 0, 0, 0, 0, 0, 0, 0],
+        Instruction::Rdffr { pd } => [14, pd, 0, 0, 0, 0, 0, 0, 0],
+        Instruction::RdffrPg { pg, pd } => [15, pg, pd, 0, 0, 0, 0, 0, 0],
+        Instruction::RdffrsPg { pg, pd } => [16, pg, pd, 0, 0, 0, 0, 0, 0],
     }
 }

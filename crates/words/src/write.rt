@@ -20,7 +20,7 @@ struct Places {
 }
 
 // How many forms there are.
-const FORMS: usize = 12;
+const FORMS: usize = 17;
 
 // Where each form's bits lie, in the order of the table.
 const TABLE: [Places; FORMS] = [
@@ -95,6 +95,36 @@ const TABLE: [Places; FORMS] = [
         fixed: 0x25004000,
         low: [23, 22, 16, 10, 9, 5, 4, 0],
         width: [1, 1, 4, 4, 1, 4, 1, 4],
+    },
+    // SETFFR
+    Places {
+        fixed: 0x252C9000,
+        low: [0, 0, 0, 0, 0, 0, 0, 0],
+        width: [0, 0, 0, 0, 0, 0, 0, 0],
+    },
+    // WRFFR
+    Places {
+        fixed: 0x25289000,
+        low: [5, 0, 0, 0, 0, 0, 0, 0],
+        width: [4, 0, 0, 0, 0, 0, 0, 0],
+    },
+    // RDFFR
+    Places {
+        fixed: 0x2519F000,
+        low: [0, 0, 0, 0, 0, 0, 0, 0],
+        width: [4, 0, 0, 0, 0, 0, 0, 0],
+    },
+    // RDFFR under Pg
+    Places {
+        fixed: 0x2518F000,
+        low: [5, 0, 0, 0, 0, 0, 0, 0],
+        width: [4, 4, 0, 0, 0, 0, 0, 0],
+    },
+    // RDFFRS under Pg
+    Places {
+        fixed: 0x2558F000,
+        low: [5, 0, 0, 0, 0, 0, 0, 0],
+        width: [4, 4, 0, 0, 0, 0, 0, 0],
     },
 ];
 

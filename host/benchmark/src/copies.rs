@@ -3,6 +3,7 @@
 
 use crate::builds::Build;
 use plokamyr::{Flags, Predicate, State};
+use std::ptr::{addr_of_mut, null, null_mut};
 
 #[repr(C)]
 struct Ran {
@@ -31,7 +32,7 @@ macro_rules! copy {
                 access: bool,
                 flags: *mut Flags,
                 x: *mut [u64; 31],
-                p: *mut [Predicate; 16],
+                p: *mut [Predicate; 17],
                 words: *const u32,
                 count: usize,
             ) -> Ran;
@@ -51,10 +52,16 @@ macro_rules! copy {
         Build {
             suffix: $suffix,
             run: |state, words| {
-                let State { vl, level, access, flags, x, p, .. } = state;
-                // SAFETY: the parts are lent for writing and for this call alone, lie apart, and have C's layout; the
-                // words are readable for their length.
-                let ran = unsafe { run_parts(*vl, *level, *access, flags, x, p, words.as_ptr(), words.len()) };
+                let State { vl, level, access, .. } = *state;
+                let state: *mut State = state;
+                // SAFETY: the parts are lent for writing and for this call alone, lie apart, and have C's layout; `ffr`
+                // is the predicate after `p`, and the pointer to both comes from that to the state. The words are
+                // readable for their length.
+                let ran = unsafe {
+                    let (flags, x) = (addr_of_mut!((*state).flags), addr_of_mut!((*state).x));
+                    let p = addr_of_mut!((*state).p).cast();
+                    run_parts(vl, level, access, flags, x, p, words.as_ptr(), words.len())
+                };
                 (ran.reply == 0).then_some(ran.done)
             },
             walk: |state, list, budget| {
@@ -69,3 +76,28 @@ macro_rules! copy {
 
 pub const NOW: Build = copy!("", "now_");
 pub const BEFORE: Build = copy!(", before", "before_");
+
+/// `plokamyr_read` with the place of its answer, which on x86-64 Linux is a hidden first parameter.
+type ReadInto = unsafe extern "C" fn(*mut u64, *const u8, usize, *mut u32, usize) -> *mut u64;
+
+extern "C" {
+    #[link_name = "now_plokamyr_read"]
+    fn now_read(answer: *mut u64, image: *const u8, length: usize, words: *mut u32, places: usize) -> *mut u64;
+    #[link_name = "before_plokamyr_read"]
+    fn before_read(answer: *mut u64, image: *const u8, length: usize, words: *mut u32, places: usize) -> *mut u64;
+}
+
+/// Whether states have one size in both copies, so that one program can lend them to either.
+pub fn are_laid_out_alike() -> bool {
+    size_of_answer(now_read) == size_of_answer(before_read)
+}
+
+/// How far an answer to a reading goes, in words of eight bytes: it ends with a state.
+fn size_of_answer(read: ReadInto) -> usize {
+    const UNTOUCHED: u64 = 0xA5A5_A5A5_A5A5_A5A5;
+    let mut answer = [UNTOUCHED; 1024];
+    // SAFETY: an image of no bytes is read, so that nulls will do; the answer, a refusal with a state that is all zero but for
+    // its length, has room for any state that there may be.
+    unsafe { read(answer.as_mut_ptr(), null(), 0, null_mut(), 0) };
+    answer.iter().rposition(|&word| word != UNTOUCHED).map_or(0, |last| last + 1)
+}

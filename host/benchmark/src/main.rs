@@ -44,9 +44,11 @@ const RATIOS: [(&str, &str); 12] = [
 ];
 
 const NOTES: &str = "
-step, run: 4,096 words, the twelve forms in turn, their fields drawn at random, at level 3. The library's state after them
-was compared with the second program's. Step, lent: by way of the step by value. Nine forms: those of levels 1 and 2.
+step, run: 4,096 words, the seventeen forms in turn, their fields drawn at random, at level 3; but a WRFFR writes what the
+RDFFR before it has read, so that none is refused. The library's state after them was compared with the second program's.
+Step, lent: by way of the step by value. Nine forms: those of levels 1 and 2 without FFR's.
 Logic: predicate logic alone, all operations, with and without flags.
+FFR: its five forms alone, in turn, from an FFR that is empty.
 Counters: CNTP of counters alone, all sizes and groups, of all marks, half of them inverted.
 search: from byte element 0 of a mask in which only the last is active, in ns for each search. By words: as the library
 does it. By elements: a scan that tests one after the other.
@@ -67,25 +69,30 @@ struct Bench {
     base: Vec<u32>,
     logic: Vec<u32>,
     counters: Vec<u32>,
+    ffr: Vec<u32>,
     list: Vec<u64>,
     qemu: Option<Qemu>,
     table: Table,
 }
 
 fn main() {
+    #[cfg(before)]
+    stop_unless_laid_out_alike();
     let base = words::base_forms(WORDS);
     let qemu = Qemu::build(&base).map_err(|missing| println!("Without QEMU: {missing}.\n")).ok();
     let all = words::all_forms(WORDS);
     let logic = words::logic(WORDS);
     let counters = words::counters(WORDS);
+    let ffr = words::ffr(WORDS);
     let list = vec![1; POSITIONS as usize];
-    let mut bench = Bench { all, base, logic, counters, list, qemu, table: Table::default() };
+    let mut bench = Bench { all, base, logic, counters, ffr, list, qemu, table: Table::default() };
     for _ in 0..ROUNDS {
         for (column, vl) in LENGTHS.into_iter().enumerate() {
             bench.words_round(column, vl);
             bench.base_words_round(column, vl);
             bench.logic_round(column, vl);
             bench.counters_round(column, vl);
+            bench.ffr_round(column, vl);
             bench.search_round(column, vl);
             bench.walk_round(column, vl);
         }
@@ -98,6 +105,19 @@ fn main() {
     if bench.qemu.is_some() {
         println!("{QEMU_NOTES}");
         println!("{}", qemu::version().unwrap_or_default());
+    }
+}
+
+/// The two libraries are lent the same states.
+#[cfg(before)]
+fn stop_unless_laid_out_alike() {
+    if !copies::are_laid_out_alike() {
+        eprintln!(
+            "The states of the library in {} are laid out otherwise than those of the one at hand. Without PLOKAMYR_BEFORE, \
+             that one alone is timed.",
+            env!("PLOKAMYR_BEFORE")
+        );
+        std::process::exit(1);
     }
 }
 
@@ -141,6 +161,14 @@ impl Bench {
         let Bench { table, counters, .. } = self;
         table.take("run, counters", column, library::run(NOW, &start, counters));
         table.take("run, counters, second program", column, second::step(&start, counters));
+    }
+
+    /// Times the words of FFR.
+    fn ffr_round(&mut self, column: usize, vl: u64) {
+        let start = words::start_of_logic(vl);
+        let Bench { table, ffr, .. } = self;
+        table.take("run, FFR", column, library::run(NOW, &start, ffr));
+        table.take("run, FFR, second program", column, second::step(&start, ffr));
     }
 
     /// Times the search for the last element, by itself and as PNEXT.

@@ -16,6 +16,7 @@ fn state_of(state: &State) -> model::State {
         flags: model::Flags { n, z, c, v },
         x: state.x,
         p: state.p.map(|p| p.words),
+        ffr: state.ffr.words,
     }
 }
 

@@ -30,7 +30,7 @@ const fn shape(fixed: u32, bits: &'static [u32], predicates: &'static [u32], reg
     Shape { fixed, bits, predicates, registers }
 }
 
-/// The forms of levels 1 and 2, in the order of `mix`. The two bits of a size count as two fields of a bit.
+/// The forms of levels 1 and 2 but for FFR's, in the order of `mix`. The two bits of a size count as two fields of a bit.
 const BASE: [Shape; 9] = [
     shape(0x2520_0000, &[23, 22, 12, 11, 10, 4], &[0], &[16, 5]), // WHILE, one predicate
     shape(0x2519_C400, &[23, 22], &[5, 0], &[]),                  // PNEXT
@@ -59,6 +59,17 @@ const LATE: [Shape; 3] = [
     CNTP_COUNTER,
 ];
 
+/// FFR's. A WRFFR stands right after an RDFFR, whose Pd it takes: see `write_what_was_read`.
+const FFR: [Shape; 5] = [
+    shape(0x252C_9000, &[], &[], &[]),     // SETFFR
+    shape(0x2518_F000, &[], &[5, 0], &[]), // RDFFR under Pg
+    shape(0x2558_F000, &[], &[5, 0], &[]), // RDFFRS under Pg
+    shape(RDFFR, &[], &[0], &[]),
+    shape(WRFFR, &[], &[5], &[]),
+];
+const RDFFR: u32 = 0x2519_F000;
+const WRFFR: u32 = 0x2528_9000;
+
 /// X0 to X27 and 31: under QEMU the rest are the loop's own.
 fn register(dice: &mut Dice) -> u32 {
     match dice.below(29) as u32 {
@@ -86,12 +97,29 @@ fn is_sel_with_s(word: u32) -> bool {
 /// The forms in turn, with all fields drawn: `count` words.
 fn mix(shapes: &[&Shape], count: usize) -> Vec<u32> {
     let mut dice = Dice::new(0x9E37_79B9_7F4A_7C15);
-    (0..count).map(|i| word(shapes[i % shapes.len()], &mut dice)).collect()
+    let mut words: Vec<u32> = (0..count).map(|i| word(shapes[i % shapes.len()], &mut dice)).collect();
+    write_what_was_read(&mut words);
+    words
 }
 
-/// Words of all twelve forms.
+/// Has each WRFFR take the Pd of the RDFFR before it: FFR is a run of ones from the start on, and so is what was read of it. Any
+/// other predicate might be refused.
+fn write_what_was_read(words: &mut [u32]) {
+    for i in 1..words.len() {
+        if words[i] & !(15 << 5) == WRFFR && words[i - 1] & !15 == RDFFR {
+            words[i] = WRFFR | (words[i - 1] & 15) << 5;
+        }
+    }
+}
+
+/// Words of all seventeen forms.
 pub fn all_forms(count: usize) -> Vec<u32> {
-    mix(&BASE.iter().chain(&LATE).collect::<Vec<_>>(), count)
+    mix(&BASE.iter().chain(&LATE).chain(&FFR).collect::<Vec<_>>(), count)
+}
+
+/// Words of FFR's five forms alone.
+pub fn ffr(count: usize) -> Vec<u32> {
+    mix(&FFR.iter().collect::<Vec<_>>(), count)
 }
 
 /// Words of the nine forms that QEMU executes too.

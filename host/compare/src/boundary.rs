@@ -90,6 +90,7 @@ fn to_library(state: &State) -> plokamyr::State {
     library.flags = plokamyr::Flags { n, z, c, v };
     library.x = state.x;
     library.p = state.p.map(|words| Predicate { words });
+    library.ffr = Predicate { words: state.ffr };
     library
 }
 
@@ -102,5 +103,6 @@ fn from_library(state: &plokamyr::State) -> State {
         flags: Flags { n, z, c, v },
         x: state.x,
         p: state.p.map(|predicate| predicate.words),
+        ffr: state.ffr.words,
     }
 }

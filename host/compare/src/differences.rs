@@ -39,6 +39,7 @@ impl Differences {
         for i in 0..16 {
             self.field(&format!("p{i}"), predicate(&library.p[i]), predicate(&second.p[i]));
         }
+        self.field("ffr", predicate(&library.ffr), predicate(&second.ffr));
     }
 
     /// Lent memory, with its canaries.
@@ -74,7 +75,7 @@ pub fn show_state(state: &State) -> String {
     for (i, words) in state.p.iter().enumerate() {
         writeln!(text, "p{i} {}", predicate(words)).expect("a string has room");
     }
-    text
+    text + &format!("ffr {}\n", predicate(&state.ffr))
 }
 
 /// The word and its row.

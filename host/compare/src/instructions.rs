@@ -4,7 +4,7 @@ use crate::random::Random;
 use crate::states;
 use model::{encode, Row, State};
 
-pub const FORMS: [&str; 12] = [
+pub const FORMS: [&str; 17] = [
     "WHILE one",
     "WHILE pair",
     "WHILE counter",
@@ -17,6 +17,11 @@ pub const FORMS: [&str; 12] = [
     "PTEST",
     "PFALSE",
     "predicate logic",
+    "SETFFR",
+    "WRFFR",
+    "RDFFR",
+    "RDFFR under Pg",
+    "RDFFRS under Pg",
 ];
 
 /// The widths of each form's fields, from the highest bit of the word down.
@@ -33,6 +38,11 @@ pub const WIDTHS: [&[u8]; FORMS.len()] = [
     &[4, 4],
     &[4],
     &[1, 1, 4, 4, 1, 4, 1, 4],
+    &[],
+    &[4],
+    &[4],
+    &[4, 4],
+    &[4, 4],
 ];
 
 /// The numbers of the forms that write a counter and read one.
@@ -44,6 +54,21 @@ pub const PNEXT: u8 = 7;
 
 /// The number of predicate logic. The fields are op, S, Pm, Pg, o2, Pn, o3, Pd.
 pub const LOGIC: u8 = 11;
+
+/// The numbers of FFR's forms. The fields are those of Pg, Pn and Pd that the form names, in this order.
+pub const SETFFR: u8 = 12;
+pub const WRFFR: u8 = 13;
+pub const RDFFR: u8 = 14;
+pub const RDFFR_PG: u8 = 15;
+pub const RDFFRS_PG: u8 = 16;
+
+/// The word of one of FFR's forms, or of another with as few fields.
+pub fn short_word(form: u8, fields: &[u8]) -> u32 {
+    let mut row = [0; 9];
+    row[0] = form;
+    row[1..=fields.len()].copy_from_slice(fields);
+    encode(&row).expect("its fields are in range")
+}
 
 /// The highest byte of our words.
 pub const HIGHEST: u32 = 0x25;
@@ -78,6 +103,9 @@ pub fn row(random: &mut Random, form: usize) -> Row {
     for (i, &width) in widths.iter().enumerate() {
         row[1 + i] = random.below(1 << width) as u8;
     }
+    if widths.is_empty() {
+        return row;
+    }
     let (i, j) = (random.index(widths.len()), random.index(widths.len()));
     if widths[i] >= 4 && widths[j] == widths[i] {
         row[1 + i] = row[1 + j];
@@ -101,6 +129,39 @@ pub fn word_of(random: &mut Random, form: usize) -> u32 {
 pub fn accepted(random: &mut Random) -> u32 {
     let form = random.index(FORMS.len());
     word_of(random, form)
+}
+
+/// So many words that are all executed, at level 3 with access.
+pub fn executed(random: &mut Random, count: usize) -> Vec<u32> {
+    let mut words: Vec<u32> = (0..count).map(|_| accepted(random)).collect();
+    prepare_writes(random, &mut words);
+    if let Some([WRFFR, ..]) = words.first().and_then(|&word| model::decode(word)) {
+        words[0] = short_word(SETFFR, &[]);
+    }
+    words
+}
+
+/// Puts before each WRFFR but the first word, in the place of another, a WHILE that leaves a run of ones in its Pn: one of
+/// bytes, counting up.
+pub fn prepare_writes(random: &mut Random, words: &mut [u32]) {
+    for i in (1..words.len()).rev() {
+        if let Some([WRFFR, pn, ..]) = model::decode(words[i]) {
+            words[i - 1] = while_of_bytes(random, pn);
+        }
+    }
+}
+
+fn while_of_bytes(random: &mut Random, pd: u8) -> u32 {
+    let mut row = row(random, 0);
+    (row[1], row[5], row[8]) = (0, 1, pd); // size, lt, Pd
+    encode(&row).expect("its fields are in range")
+}
+
+/// A WHILEHS of halfwords that holds for all, and a WRFFR of what it leaves, which is every other bit.
+pub fn refused_wrffr(random: &mut Random) -> [u32; 2] {
+    let p = random.below(16) as u8;
+    let whilehs = encode(&[0, 1, 31, 1, 1, 0, 31, 0, p]).expect("its fields are in range"); // xzr, xzr
+    [whilehs, short_word(WRFFR, &[p])]
 }
 
 /// A word that is mostly refused: a near miss, one of 25xxxxxx, one that its form leaves out, or anything.
@@ -143,7 +204,7 @@ pub fn any(random: &mut Random) -> u32 {
 }
 
 /// Often sets a register that the word reads, so that its operands lie as far apart as there are elements or lie around
-/// the ends of its range, or so that it is a counter. The state is legal.
+/// the ends of its range, or so that it is a counter, or a run of ones or nearly one for WRFFR. The state is legal.
 pub fn tie(random: &mut Random, state: &mut State, word: u32) {
     if random.one_in(3) {
         return;
@@ -164,6 +225,7 @@ pub fn tie(random: &mut Random, state: &mut State, word: u32) {
             let low = &mut state.p[usize::from(pnn)][0];
             *low = *low & !0xFFFF | states::counter(random, vl);
         }
+        Some([WRFFR, pn, ..]) => state.p[usize::from(pn)] = states::near_run(random, vl),
         _ => {}
     }
 }

@@ -152,7 +152,7 @@ fn note(seen: &mut Seen, before: &State, after: &State, &[_, op, s, pm, pg, o2, 
 }
 
 /// The flags that PTEST of Pd gives under a mask.
-fn flags_under(mask: [u64; 4], state: &State, d: u8) -> Flags {
+pub fn flags_under(mask: [u64; 4], state: &State, d: u8) -> Flags {
     let mut state = state.clone();
     let g = (d + 1) % 16; // any but Pd
     state.p[usize::from(g)] = mask;

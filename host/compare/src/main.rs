@@ -7,6 +7,7 @@
 mod boundary;
 mod counters;
 mod differences;
+mod ffr;
 mod images;
 mod kind;
 mod lent;
@@ -14,10 +15,12 @@ mod logic;
 mod searches;
 mod seen;
 mod steps;
+mod strays;
 mod texts;
 mod walks;
 mod whiles;
 mod words;
+mod wrffr;
 mod writes;
 
 use kind::{run_all, run_case, Kind};
@@ -37,7 +40,7 @@ fn entry<K: Kind>() -> Entry {
     Entry { name: K::NAME, all: run_all::<K>, one: run_case::<K> }
 }
 
-fn entries() -> [Entry; 14] {
+fn entries() -> [Entry; 17] {
     [
         entry::<steps::Steps>(),
         entry::<steps::Runs>(),
@@ -45,6 +48,9 @@ fn entries() -> [Entry; 14] {
         entry::<counters::Counters>(),
         entry::<whiles::Whiles>(),
         entry::<searches::Searches>(),
+        entry::<ffr::Ffr>(),
+        entry::<wrffr::Wrffr>(),
+        entry::<strays::Strays>(),
         entry::<walks::Walks>(),
         entry::<images::Reads>(),
         entry::<images::Cuts>(),

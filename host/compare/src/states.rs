@@ -39,6 +39,7 @@ pub fn legal(random: &mut Random, vl: u64) -> State {
     for p in &mut state.p {
         *p = predicate(random, vl);
     }
+    state.ffr = if random.one_in(4) { run(random.below(vl / 8 + 1)) } else { predicate(random, vl) };
     state
 }
 
@@ -51,7 +52,7 @@ pub fn spoil(random: &mut Random, state: &mut State) {
     }
 }
 
-/// Sets a bit at or above PL of one predicate: often the first such bit, or the last.
+/// Sets a bit at or above PL of one predicate or, more often, of FFR: often the first such bit, or the last.
 fn stray_bit(random: &mut Random, state: &mut State) {
     let pl = state.vl as usize / 8;
     if pl >= 256 {
@@ -63,7 +64,17 @@ fn stray_bit(random: &mut Random, state: &mut State) {
         1 => 255,
         _ => pl + random.index(256 - pl),
     };
-    state.p[random.index(16)][bit / 64] |= 1 << (bit % 64);
+    let register = match random.index(20) {
+        number if number < 16 => &mut state.p[number],
+        _ => &mut state.ffr,
+    };
+    register[bit / 64] |= 1 << (bit % 64);
+}
+
+/// Whether FFR has a bit at or above PL, and nothing else makes the state illegal.
+pub fn is_illegal_by_ffr(state: &State) -> bool {
+    let within = |predicate: &[u64; 4]| *predicate == cut(*predicate, state.vl);
+    LENGTHS.contains(&state.vl) && state.level <= 3 && state.p.iter().all(within) && !within(&state.ffr)
 }
 
 /// Values near each other, so that counts vary; near the edges; small; with other high words; or anything.
@@ -116,7 +127,31 @@ pub const SHAPES: [Shape; 5] = [Shape::Empty, Shape::Full, Shape::Dense, Shape::
 
 /// The predicate with every bit below PL set.
 pub fn full(vl: u64) -> [u64; 4] {
-    cut([u64::MAX; 4], vl)
+    run(vl / 8)
+}
+
+/// A run of ones from bit 0.
+pub fn run(length: u64) -> [u64; 4] {
+    cut([u64::MAX; 4], 8 * length)
+}
+
+/// Whether a predicate is a run of ones from bit 0: it has as many as the run of that length.
+pub fn is_run(predicate: &[u64; 4]) -> bool {
+    *predicate == run(predicate.iter().map(|word| u64::from(word.count_ones())).sum())
+}
+
+/// A run of ones from bit 0, half the time with one bit changed: mostly a hole, or a bit above it.
+pub fn near_run(random: &mut Random, vl: u64) -> [u64; 4] {
+    let mut predicate = run(random.below(vl / 8 + 1));
+    if random.one_in(2) {
+        flip(&mut predicate, random.index(vl as usize / 8));
+    }
+    predicate
+}
+
+/// Changes a bit.
+pub fn flip(predicate: &mut [u64; 4], bit: usize) {
+    predicate[bit / 64] ^= 1 << (bit % 64);
 }
 
 /// A predicate of a shape.

@@ -19,12 +19,13 @@ const STEP_KIND: u64 = 11;
 impl Kind for Steps {
     type Input = (State, u32);
     const NAME: &'static str = "steps";
-    const REPLIES: &'static [u8] = &[0, 1, 2, 3, 4, 13];
+    const REPLIES: &'static [u8] = &[0, 1, 2, 3, 4, 13, 14];
     const FORMS: Forms = Forms::EachAtEachLength;
     const NOTES: &'static [&'static str] = &[
         "bad vl",
         "bad level",
         "stray bits",
+        "stray bits of FFR",
         "illegal with a foreign word",
         "illegal with an unsupported form",
         "1 at level 0",
@@ -42,6 +43,7 @@ impl Kind for Steps {
         "PNEXT found none",
         "CNTP counter above 0",
         "CNTP counter, another answer up to bit 14",
+        "FFR not a run of ones",
         "X31 named",
         "a register twice",
     ];
@@ -99,6 +101,7 @@ fn note_illegal(seen: &mut Seen, state: &State, word: u32) {
     seen.note_if(bad_vl, "bad vl");
     seen.note_if(state.level > 3, "bad level");
     seen.note_if(!bad_vl && state.level <= 3, "stray bits");
+    seen.note_if(states::is_illegal_by_ffr(state), "stray bits of FFR");
     let foreign = instructions::is_foreign(word);
     seen.note_if(foreign, "illegal with a foreign word");
     seen.note_if(!foreign && decode(word).is_none(), "illegal with an unsupported form");
@@ -117,6 +120,7 @@ fn note_none_of_ours(seen: &mut Seen, state: &State, word: u32, reply: u8) {
 
 fn note_accepted(seen: &mut Seen, before: &State, after: &State, row: &Row) {
     seen.form(row, before.vl);
+    seen.note_if(!states::is_run(&before.ffr), "FFR not a run of ones");
     let flags = after.flags;
     match *row {
         [0, size, rm, sf, u, lt, rn, eq, _] => note_while(seen, before, flags, [size, rm, sf, u, lt, rn, eq]),
@@ -177,11 +181,12 @@ impl Kind for Runs {
     type Input = (State, Vec<u32>);
     const NAME: &'static str = "runs";
     /// That of the run, or to the word that it stopped at.
-    const REPLIES: &'static [u8] = &[0, 1, 2, 3, 4, 13];
+    const REPLIES: &'static [u8] = &[0, 1, 2, 3, 4, 13, 14];
     const FORMS: Forms = Forms::EachAtEachLength;
     const NOTES: &'static [&'static str] = &[
         "no words",
         "illegal without words",
+        "illegal by FFR",
         "more than 100 done",
         "refused at the first word",
         "refused at a later word",
@@ -193,6 +198,7 @@ impl Kind for Runs {
         "13 at level 0",
         "13 without access",
         "SEL with S refused",
+        "14 after words done",
     ];
 
     fn numbers() -> impl Iterator<Item = u64> {
@@ -202,17 +208,18 @@ impl Kind for Runs {
     fn make(seed: u64, number: u64) -> (State, Vec<u32>) {
         let random = &mut Random::new(seed, RUN_KIND, number);
         let mut state = states::any(random);
-        let count = if random.one_in(100) { random.below(400) } else { random.below(20) };
-        let safe = random.one_in(2);
+        let count = if random.one_in(100) { random.index(400) } else { random.index(20) };
         if count > 20 {
             state.level = 3;
             state.access = true;
         }
-        let words = (0..count).map(|_| match safe || count > 20 {
-            true => instructions::accepted(random),
-            false => instructions::any(random),
-        });
-        (state, words.collect())
+        let words = match random.below(4) {
+            _ if count > 20 => instructions::executed(random, count),
+            0 => instructions::executed(random, count),
+            1 => (0..count).map(|_| instructions::accepted(random)).collect(),
+            _ => (0..count).map(|_| instructions::any(random)).collect(),
+        };
+        (state, words)
     }
 
     fn show((state, words): &(State, Vec<u32>)) -> String {
@@ -267,6 +274,8 @@ fn note_run(seen: &mut Seen, state: &State, words: &[u32], ran: &Ran) {
     }
     seen.note_if(words.is_empty(), "no words");
     seen.note_if(words.is_empty() && ran.reply == 4, "illegal without words");
+    seen.note_if(states::is_illegal_by_ffr(state), "illegal by FFR");
+    seen.note_if(ran.refused == 14 && ran.done > 0, "14 after words done");
     seen.note_if(ran.done > 100, "more than 100 done");
     seen.note_if(ran.done == 0 && ran.refused != 0, "refused at the first word");
     seen.note_if(ran.refused != 0 && ran.done + 1 < words.len(), "words after a refused one");

@@ -5,10 +5,11 @@ use crate::differences::{show_bytes, Differences, Outcome};
 use crate::kind::{Forms, Kind};
 use crate::lent::{byte, Lent};
 use crate::seen::Seen;
-use compare::damage::{self, Damage};
+use compare::damage::{self, Damage, AGES};
 use compare::instructions;
 use compare::random::Random;
 use compare::states::{self, LENGTHS};
+use model::State;
 
 pub struct Texts;
 
@@ -19,7 +20,7 @@ impl Kind for Texts {
     type Input = Vec<u8>;
     const NAME: &'static str = "texts";
     /// Those of the image or of its last word stepped.
-    const REPLIES: &'static [u8] = &[0, 1, 2, 3, 5, 6, 7, 13];
+    const REPLIES: &'static [u8] = &[0, 1, 2, 3, 5, 6, 7, 13, 14];
     const FORMS: Forms = Forms::EachAtEachLength;
     const NOTES: &'static [&'static str] = &[
         "buffers",
@@ -30,6 +31,9 @@ impl Kind for Texts {
         "4,096 lines, the last with 13",
         "1 after words done",
         "13 after words done",
+        "14 after words done",
+        "4,096 lines, the last with 14",
+        "words of an old image",
     ];
 
     fn numbers() -> impl Iterator<Item = u64> {
@@ -41,22 +45,13 @@ impl Kind for Texts {
         let vl = random.pick(&LENGTHS);
         let mut state = states::legal(random, vl);
         let long = number.is_multiple_of(100);
-        let count = if long { 4096 } else { random.below(14) };
-        let calm = random.one_in(2);
-        if long {
-            state.level = 3;
-            state.access = true;
-        }
-        let words = (0..count).map(|_| match long || calm {
-            true => instructions::accepted(random),
-            false => instructions::any(random),
-        });
-        let mut words: Vec<u32> = words.collect();
-        if number.is_multiple_of(200) {
+        let mut words = if long { long_words(random, &mut state, number) } else { short_words(random) };
+        if long && number.is_multiple_of(200) {
             words[4095] = instructions::unsupported(random); // the longest text: this reply has two digits
         }
-        let image = damage::image(&state, &words);
-        let damage = if long || random.one_in(2) { Damage::None } else { damage::any(random, &image, vl) };
+        let age = random.pick(&AGES);
+        let image = damage::image_of(age, &state, &words);
+        let damage = if long || random.one_in(2) { Damage::None } else { damage::any(random, &image, age, vl) };
         damage::damaged(&image, damage)
     }
 
@@ -78,6 +73,25 @@ impl Kind for Texts {
         note(seen, image, &text);
         differences.outcome()
     }
+}
+
+fn short_words(random: &mut Random) -> Vec<u32> {
+    let count = random.index(14);
+    match random.below(4) {
+        0 => instructions::executed(random, count),
+        1 => (0..count).map(|_| instructions::accepted(random)).collect(),
+        _ => (0..count).map(|_| instructions::any(random)).collect(),
+    }
+}
+
+/// As many words as an image may have, and a state on which all are executed; now and then the last is a WRFFR that is not.
+fn long_words(random: &mut Random, state: &mut State, number: u64) -> Vec<u32> {
+    (state.level, state.access) = (3, true);
+    let mut words = instructions::executed(random, 4096);
+    if number.is_multiple_of(300) {
+        words[4094..].copy_from_slice(&instructions::refused_wrffr(random));
+    }
+    words
 }
 
 fn compare_in(image: &[u8], room: usize, text: &[u8], seen: &mut Seen, differences: &mut Differences) {
@@ -109,12 +123,15 @@ fn note(seen: &mut Seen, image: &[u8], text: &[u8]) {
     seen.reply(ran.refused);
     seen.note_if(ran.refused == 1 && ran.done > 0, "1 after words done");
     seen.note_if(ran.refused == 13 && ran.done > 0, "13 after words done");
+    seen.note_if(ran.refused == 14 && ran.done > 0, "14 after words done");
+    seen.note_if(ran.done > 0 && damage::count_at_ffr(image) == Some(4), "words of an old image");
     for &word in &words[..ran.done] {
         seen.form(&model::decode(word).expect("it was executed"), reading.state.vl);
     }
     let all = text.iter().filter(|&&byte| byte == b'\n').count() == 4097;
     seen.note_if(all, "4,096 lines");
     seen.note_if(all && ran.refused == 13, "4,096 lines, the last with 13");
+    seen.note_if(all && ran.refused == 14, "4,096 lines, the last with 14");
 }
 
 fn utf8(text: &[u8]) -> String {

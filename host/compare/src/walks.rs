@@ -7,7 +7,7 @@ use crate::lent::{whole, Lent};
 use crate::seen::Seen;
 use compare::random::Random;
 use compare::routes::{route, Bounds, Route};
-use compare::states::{spoil, LENGTHS};
+use compare::states::{self, spoil, LENGTHS};
 
 pub struct Walks;
 
@@ -48,6 +48,8 @@ impl Kind for Walks {
         "ended",
         "ended after some rounds",
         "spent after some rounds",
+        "illegal by FFR",
+        "FFR not all false",
     ];
 
     fn numbers() -> impl Iterator<Item = u64> {
@@ -88,6 +90,7 @@ impl Kind for Walks {
         differences.state(&library.state, &second.state);
         differences.lent("list", &ours, &theirs);
         seen.reply(second.reply);
+        seen.note_if(states::is_illegal_by_ffr(state), "illegal by FFR");
         note_registers(seen, route);
         if !matches!(second.reply, 2 | 3 | 4 | 10) {
             note_ends(seen, route);
@@ -96,6 +99,7 @@ impl Kind for Walks {
         if matches!(second.reply, 0 | 12) {
             note_budget(seen, route);
             let rounds = second.state.x[*n as usize] != state.x[*n as usize];
+            seen.note_if(state.ffr != [0; 4], "FFR not all false");
             seen.note_if(second.reply == 0, "ended");
             seen.note_if(second.reply == 0 && rounds, "ended after some rounds");
             seen.note_if(second.reply == 12 && rounds, "spent after some rounds");

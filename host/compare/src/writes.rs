@@ -5,6 +5,7 @@ use crate::differences::{show_state, show_words, Differences, Outcome};
 use crate::kind::{Forms, Kind};
 use crate::lent::{byte, word, Lent};
 use crate::seen::Seen;
+use compare::damage::{self, Age};
 use compare::random::Random;
 use compare::states;
 use model::State;
@@ -35,6 +36,8 @@ impl Kind for Writes {
         "4,097 words",
         "more words",
         "illegal, too many",
+        "illegal by FFR",
+        "FFR not all false",
     ];
 
     fn numbers() -> impl Iterator<Item = u64> {
@@ -93,9 +96,9 @@ fn read_again(input: &Input, image: &[u8], differences: &mut Differences) {
     differences.lent("words, read of written", &words, &same);
 }
 
-/// The image's length, by document 01; for a bad VL that of some other.
+/// The image's length; for a bad VL that of some other.
 fn length(state: &State, words: usize) -> usize {
-    275 + state.vl.min(2048) as usize / 4 + 4 * words
+    damage::length(Age::New, state.vl.min(2048), words)
 }
 
 fn room(random: &mut Random, length: usize) -> usize {
@@ -116,6 +119,8 @@ fn note(seen: &mut Seen, input: &Input, reply: u8) {
     seen.note_if(reply == 6 && count == 4097, "4,097 words");
     seen.note_if(reply == 6 && count > 4097, "more words");
     seen.note_if(reply == 4 && count > 4096, "illegal, too many");
+    seen.note_if(states::is_illegal_by_ffr(&input.state), "illegal by FFR");
+    seen.note_if(reply == 0 && input.state.ffr != [0; 4], "FFR not all false");
     if matches!(reply, 0 | 8) {
         let length = length(&input.state, count);
         seen.note_if(input.room + 1 == length, "a byte too few");

@@ -21,6 +21,11 @@ pub fn execute(state: &mut State, row: &Row) {
         [PTEST, pg, pn, ..] => ptest(state, pg, pn),
         [PFALSE, pd, ..] => pfalse(state, pd),
         [LOGIC, op, s, pm, pg, o2, pn, o3, pd] => logic(state, [op, o2, o3], s == 1, pm, pg, pn, pd),
+        [SETFFR, ..] => setffr(state),
+        [WRFFR, pn, ..] => wrffr(state, pn),
+        [RDFFR, pd, ..] => rdffr(state, pd),
+        [RDFFR_PG, pg, pd, ..] => rdffr_under(state, false, pg, pd),
+        [RDFFRS_PG, pg, pd, ..] => rdffr_under(state, true, pg, pd),
         _ => unreachable!("no row has such a form"),
     }
 }
@@ -204,10 +209,55 @@ fn logic_element(operation: Operation, g: bool, n: bool, m: bool) -> bool {
     }
 }
 
+// ---- the first-fault register ----
+
+/// "SETFFR (all true)".
+fn setffr(state: &mut State) {
+    let bits = state.pl();
+    state.write_ffr(&vec![true; bits]);
+}
+
+/// Past reply 14, so that Pn is a run of ones from bit 0.
+fn wrffr(state: &mut State, n: u8) {
+    let operand = state.read_p(n, BYTES);
+    state.write_ffr(&operand);
+}
+
+fn rdffr(state: &mut State, d: u8) {
+    let ffr = state.read_ffr();
+    state.write_p(d, BYTES, &ffr);
+}
+
+/// "Under Pg the result is FFR and Pg", and for the flag-setting form "flags by PredTest(Pg, result) over bytes".
+fn rdffr_under(state: &mut State, sets_flags: bool, g: u8, d: u8) {
+    let mask = state.read_p(g, BYTES);
+    let ffr = state.read_ffr();
+    let mut result = Vec::new();
+    for e in 0..state.elements(BYTES) {
+        result.push(ffr[e] && mask[e]);
+    }
+    if sets_flags {
+        state.flags = pred_test(&mask, &result);
+    }
+    state.write_p(d, BYTES, &result);
+}
+
+/// "A run of ones from bit 0 (an empty or full one counts)": no bit is true after one that is false.
+pub fn is_run_from_bit_0(bits: &[bool]) -> bool {
+    let mut ended = false;
+    for &bit in bits {
+        if ended && bit {
+            return false;
+        }
+        ended = !bit;
+    }
+    true
+}
+
 // ---- what they share ----
 
-/// The size of PFIRST, PTEST, PFALSE and predicate logic, where each bit of a predicate is an element.
-const BYTES: u8 = 0;
+/// The size of PFIRST, PTEST, PFALSE, predicate logic and FFR's words, where each bit of a predicate is an element.
+pub const BYTES: u8 = 0;
 
 /// The operand's width by sf.
 fn width(sf: u8) -> u32 {

@@ -1,4 +1,4 @@
-//! The image: five sections, each after its 4-byte little-endian count.
+//! The image: six sections, each after its 4-byte little-endian count. An old image has five: it is without FFR's.
 
 use crate::reply::*;
 use crate::state::{Flags, State};
@@ -6,6 +6,7 @@ use crate::state::{Flags, State};
 const SETTINGS: u32 = 3;
 const X: u32 = 31;
 const P: u32 = 16;
+const FFR: u32 = 1;
 const FLAGS: u32 = 4;
 const WORDS_MAX: usize = 4096;
 
@@ -61,6 +62,7 @@ pub fn sections(image: &[u8]) -> Result<(State, Vec<u32>), u8> {
     read_settings(&mut reader, &mut state)?;
     read_x(&mut reader, &mut state)?;
     read_p(&mut reader, &mut state)?;
+    read_ffr(&mut reader, &mut state)?;
     read_flags(&mut reader, &mut state)?;
     let words = read_words(&mut reader)?;
     if reader.rest.is_empty() {
@@ -146,6 +148,21 @@ fn read_p(reader: &mut Reader, state: &mut State) -> Result<(), u8> {
     Ok(())
 }
 
+/// "An image where the count there is 4 is an old one and reads with FFR all false; any other count is 6." That 4 is then the
+/// count of the flags, so that it is looked at here and read there.
+fn read_ffr(reader: &mut Reader, state: &mut State) -> Result<(), u8> {
+    let count = Reader { rest: reader.rest }.count()?;
+    if count == FLAGS {
+        state.ffr = [0; 4];
+        return Ok(());
+    }
+    let content = reader.section(FFR, state.pl() / 8)?;
+    for (word, part) in state.ffr.iter_mut().zip(content.chunks(8)) {
+        *word = little_endian(part);
+    }
+    Ok(())
+}
+
 fn read_flags(reader: &mut Reader, state: &mut State) -> Result<(), u8> {
     let content = reader.section(FLAGS, 4)?;
     let (n, z, c, v) = (truth(content[0])?, truth(content[1])?, truth(content[2])?, truth(content[3])?);
@@ -162,7 +179,7 @@ fn read_words(reader: &mut Reader) -> Result<Vec<u32>, u8> {
     Ok(content.chunks(4).map(|bytes| little_endian(bytes) as u32).collect())
 }
 
-/// The image of a legal state.
+/// The image of a legal state: "the writer writes the new kind only".
 fn image_of(state: &State, words: &[u32]) -> Vec<u8> {
     let mut image = Vec::new();
     image.extend(SETTINGS.to_le_bytes());
@@ -172,10 +189,11 @@ fn image_of(state: &State, words: &[u32]) -> Vec<u8> {
         image.extend(x.to_le_bytes());
     }
     image.extend(P.to_le_bytes());
-    for predicate in state.p {
-        let bytes = predicate.iter().flat_map(|word| word.to_le_bytes());
-        image.extend(bytes.take(state.pl() / 8));
+    for predicate in &state.p {
+        image.extend(predicate_bytes(state, predicate));
     }
+    image.extend(FFR.to_le_bytes());
+    image.extend(predicate_bytes(state, &state.ffr));
     image.extend(FLAGS.to_le_bytes());
     image.extend([state.flags.n, state.flags.z, state.flags.c, state.flags.v].map(u8::from));
     image.extend((words.len() as u32).to_le_bytes());
@@ -183,4 +201,9 @@ fn image_of(state: &State, words: &[u32]) -> Vec<u8> {
         image.extend(word.to_le_bytes());
     }
     image
+}
+
+/// VL/64 bytes, "lowest bits first".
+fn predicate_bytes(state: &State, predicate: &[u64; 4]) -> Vec<u8> {
+    predicate.iter().flat_map(|word| word.to_le_bytes()).take(state.pl() / 8).collect()
 }

@@ -14,3 +14,4 @@ pub const BAD_WALK_REGISTERS: u8 = 10;
 pub const LIST_TOO_SHORT: u8 = 11;
 pub const BUDGET_SPENT: u8 = 12;
 pub const UNSUPPORTED_FORM: u8 = 13; // request K4
+pub const NOT_MONOTONIC: u8 = 14; // request K5

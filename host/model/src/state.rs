@@ -8,7 +8,7 @@ pub struct Flags {
     pub v: bool,
 }
 
-/// Any values may stand in it, illegal ones too. Bit b of a predicate is bit b % 64 of its word b / 64.
+/// Any values may stand in it, illegal ones too. Bit b of a predicate, and of FFR, is bit b % 64 of its word b / 64.
 #[derive(Clone, PartialEq, Eq, Debug)]
 pub struct State {
     pub vl: u64,
@@ -17,6 +17,8 @@ pub struct State {
     pub flags: Flags,
     pub x: [u64; 31],
     pub p: [[u64; 4]; 16],
+    /// "A first-fault predicate (FFR, PL bits)".
+    pub ffr: [u64; 4],
 }
 
 /// The predicate bits that a state has room for; those at or above PL are zero in a legal one.
@@ -44,14 +46,20 @@ fn set_bit(predicate: &mut [u64; 4], b: usize) {
 impl State {
     /// VL 128 and all else zero.
     pub fn zero() -> State {
-        State { vl: 128, level: 0, access: false, flags: Flags::default(), x: [0; 31], p: [[0; 4]; 16] }
+        let flags = Flags::default();
+        State { vl: 128, level: 0, access: false, flags, x: [0; 31], p: [[0; 4]; 16], ffr: [0; 4] }
     }
 
-    /// Whether reply 4 does not refuse it.
+    /// Whether reply 4 does not refuse it. "Reply 4 covers" FFR's "bits at or above PL" as well.
     pub fn legal(&self) -> bool {
         matches!(self.vl, 128 | 256 | 512 | 1024 | 2048)
             && self.level <= 3
-            && self.p.iter().all(|predicate| !(self.pl()..PREDICATE_BITS).any(|b| bit(predicate, b)))
+            && self.p.iter().all(|predicate| self.is_within_pl(predicate))
+            && self.is_within_pl(&self.ffr)
+    }
+
+    fn is_within_pl(&self, predicate: &[u64; 4]) -> bool {
+        !(self.pl()..PREDICATE_BITS).any(|b| bit(predicate, b))
     }
 
     /// PL, the bits of a predicate.
@@ -95,6 +103,21 @@ impl State {
             }
         }
         self.p[usize::from(number)] = predicate;
+    }
+
+    /// The bits of FFR below PL.
+    pub fn read_ffr(&self) -> Vec<bool> {
+        (0..self.pl()).map(|b| bit(&self.ffr, b)).collect()
+    }
+
+    /// Writes FFR by its bits below PL; those at or above are zero.
+    pub fn write_ffr(&mut self, bits: &[bool]) {
+        self.ffr = [0; 4];
+        for (b, &active) in bits.iter().enumerate() {
+            if active {
+                set_bit(&mut self.ffr, b);
+            }
+        }
     }
 
     /// A predicate taken as a counter: its lowest 16 bits.

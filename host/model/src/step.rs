@@ -1,9 +1,9 @@
 //! One word, and words one after the other.
 
-use crate::execute::execute;
+use crate::execute::{execute, is_run_from_bit_0, BYTES};
 use crate::reply::*;
 use crate::state::State;
-use crate::words::{decode, decode_refusal, level};
+use crate::words::{decode, decode_refusal, level, Row, WRFFR};
 
 /// The run's own reply, that to the word it stopped at, and the words done before.
 #[derive(Clone, PartialEq, Eq, Debug)]
@@ -14,8 +14,8 @@ pub struct Ran {
     pub state: State,
 }
 
-/// Executes a word on the state where it stands. "Step order: 4, 1, 2, 3", and "13 stands in 1's place in every order":
-/// 4, 1 or 13, 2, 3. Refused, it leaves the state as it was.
+/// Executes a word on the state where it stands. "Step order: 4, 1, 2, 3", "13 stands in 1's place in every order", and "new
+/// reply 14, after 3": 4, 1 or 13, 2, 3, 14. Refused, it leaves the state as it was.
 pub fn step(state: &mut State, word: u32) -> u8 {
     if !state.legal() {
         return ILLEGAL_STATE;
@@ -29,8 +29,19 @@ pub fn step(state: &mut State, word: u32) -> u8 {
     if !state.access {
         return ACCESS_OFF;
     }
+    if !may_be_written(state, &row) {
+        return NOT_MONOTONIC;
+    }
     execute(state, &row);
     DONE
+}
+
+/// "WRFFR of anything but a run of ones from bit 0 (an empty or full one counts) is refused". All else is never refused so.
+fn may_be_written(state: &State, row: &Row) -> bool {
+    match *row {
+        [WRFFR, pn, ..] => is_run_from_bit_0(&state.read_p(pn, BYTES)),
+        _ => true,
+    }
 }
 
 /// Steps the words until one is refused. An illegal state is refused even if there are none.

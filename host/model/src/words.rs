@@ -18,9 +18,14 @@ pub const PFIRST: u8 = 8;
 pub const PTEST: u8 = 9;
 pub const PFALSE: u8 = 10;
 pub const LOGIC: u8 = 11;
+pub const SETFFR: u8 = 12;
+pub const WRFFR: u8 = 13;
+pub const RDFFR: u8 = 14;
+pub const RDFFR_PG: u8 = 15;
+pub const RDFFRS_PG: u8 = 16;
 
 /// The bits of each form from 31 down: digits where fixed, else the name and width of a field; a bare name has one bit.
-const TABLE: [&str; 12] = [
+const TABLE: [&str; 17] = [
     "00100101 size:2 1 Rm:5 000 sf U lt Rn:5 eq Pd:4",
     "00100101 size:2 1 Rm:5 0101 U lt Rn:5 1 Pd:3 eq",
     "00100101 size:2 1 Rm:5 01 vl 0 U lt Rn:5 1 eq PNd:3",
@@ -35,6 +40,12 @@ const TABLE: [&str; 12] = [
     "0010 0101 0001 1000 1110 0100 0000 Pd:4",
     // request K1
     "00100101 op S 00 Pm:4 01 Pg:4 o2 Pn:4 o3 Pd:4",
+    // request K5: 252C9000, 25289000 + Pn·32, 2519F000 + Pd, 2518F000 + Pg·32 + Pd, 2558F000 likewise
+    "0010 0101 0010 1100 1001 0000 0000 0000",
+    "0010 0101 0010 1000 1001 000 Pn:4 00000",
+    "0010 0101 0001 1001 1111 0000 0000 Pd:4",
+    "0010 0101 0001 1000 1111 000 Pg:4 0 Pd:4",
+    "0010 0101 0101 1000 1111 000 Pg:4 0 Pd:4",
 ];
 
 /// The operations of predicate logic by op, o2, o3.

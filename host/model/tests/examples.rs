@@ -1,5 +1,5 @@
 //! Document 01's fourteen examples, its program, and the errors that it has seen made; predicate logic; counters read; foreign
-//! words and unsupported forms.
+//! words and unsupported forms; the first-fault register.
 
 use model::*;
 use std::fs;
@@ -20,7 +20,12 @@ const HI: [u8; 3] = [1, 0, 1];
 
 /// VL 128, level 3, access on, all else zero.
 fn ready() -> State {
-    State { vl: 128, level: 3, access: true, flags: Flags::default(), x: [0; 31], p: [[0; 4]; 16] }
+    State { level: 3, access: true, ..nothing() }
+}
+
+/// VL 128, all else zero.
+fn nothing() -> State {
+    State { vl: 128, level: 0, access: false, flags: Flags::default(), x: [0; 31], p: [[0; 4]; 16], ffr: [0; 4] }
 }
 
 fn nzc(n: u8, z: u8, c: u8) -> Flags {
@@ -458,23 +463,162 @@ fn logic_asks_level_1() {
     assert_eq!(step(&mut State { level: 1, ..truth_table() }, word), 0);
 }
 
+// ---- the first-fault register ----
+
+const SETFFR: &[u8] = &[12];
+const WRFFR: u8 = 13;
+const RDFFR: u8 = 14;
+const RDFFR_PG: u8 = 15;
+const RDFFRS_PG: u8 = 16;
+
+const LENGTHS: [u64; 5] = [128, 256, 512, 1024, 2048];
+
+/// The bits from `low` up to `high`, without it.
+fn bits(low: usize, high: usize) -> [u64; 4] {
+    let mut predicate = [0; 4];
+    for b in low..high {
+        predicate[b / 64] |= 1 << (b % 64);
+    }
+    predicate
+}
+
+/// WRFFR of P7 that holds this, at a length: the reply and the state after it.
+fn wrffr(length: u64, predicate: [u64; 4]) -> (u8, State) {
+    let mut state = State { vl: length, flags: truth_table().flags, ffr: bits(3, 9), ..ready() };
+    state.p[7] = predicate;
+    let reply = step(&mut state, 0x2528_9000 + 7 * 32);
+    (reply, state)
+}
+
+/// "All true": each of the PL bits, and none above.
+#[test]
+fn setffr_at_each_length() {
+    for length in LENGTHS {
+        let mut state = State { vl: length, flags: truth_table().flags, ..ready() };
+        let expected = State { ffr: bits(0, length as usize / 8), ..state.clone() };
+        do_step(&mut state, SETFFR);
+        assert_eq!(state, expected);
+    }
+}
+
+/// "A run of ones from bit 0 (an empty or full one counts)"; anything else is refused with 14, and changes nothing.
+#[test]
+fn wrffr_takes_a_run_of_ones() {
+    for length in LENGTHS {
+        let pl = length as usize / 8;
+        for end in 0..=pl {
+            let (reply, state) = wrffr(length, bits(0, end));
+            let mut expected = State { vl: length, flags: truth_table().flags, ffr: bits(0, end), ..ready() };
+            expected.p[7] = bits(0, end);
+            assert_eq!((reply, state), (0, expected));
+        }
+        for end in 2..=pl {
+            for start in 1..end {
+                let (reply, state) = wrffr(length, bits(start, end)); // bit 0 among those that are false
+                assert_eq!((reply, state.ffr, state.flags), (14, bits(3, 9), truth_table().flags));
+                let hole = [0, 1, 2, 3].map(|i| bits(0, end)[i] & !bits(start - 1, start)[i]);
+                assert_eq!((wrffr(length, hole).0, wrffr(length, hole).1.p[7]), (14, hole));
+            }
+        }
+    }
+}
+
+/// FFR may hold anything; without Pg all of it is read, under Pg what is in both; flags stay.
+#[test]
+fn rdffr_with_and_without_a_mask() {
+    let mut state = State { ffr: low(0x3c), ..truth_table() };
+    let mut expected = state.clone();
+    do_step(&mut state, &[RDFFR, 9]);
+    expected.p[9] = low(0x3c);
+    assert_eq!(state, expected);
+    do_step(&mut state, &[RDFFR_PG, 1, 8]); // P1 is F0
+    expected.p[8] = low(0x30);
+    assert_eq!(state, expected);
+    do_step(&mut state, &[RDFFR_PG, 1, 1]);
+    expected.p[1] = low(0x30);
+    assert_eq!(state, expected);
+}
+
+/// "Flags by PredTest(Pg, result) over bytes": by Pg as it was, neither by all bytes nor by what Pd holds then.
+#[test]
+fn rdffrs_sets_flags() {
+    let flags = |mask: u64, ffr: u64| {
+        let [other, same] = [2, 1].map(|pd| {
+            let mut state = State { ffr: low(ffr), ..truth_table() };
+            state.p[1] = low(mask);
+            do_step(&mut state, &[RDFFRS_PG, 1, pd]);
+            assert_eq!((state.p[usize::from(pd)], state.ffr), (low(mask & ffr), low(ffr)));
+            state.flags
+        });
+        assert_eq!(other, same);
+        other
+    };
+    assert_eq!(flags(0xf0, 0x3c), nzc(1, 0, 1)); // lanes 4 and 5 of 4 to 7
+    assert_eq!(flags(0xf0, 0xc3), nzc(0, 0, 0)); // 6 and 7
+    assert_eq!(flags(0xf0, 0xff), nzc(1, 0, 0));
+    assert_eq!(flags(0xf0, 0x0f), nzc(0, 1, 1));
+    assert_eq!(flags(0, 0xffff), nzc(0, 1, 1)); // an empty mask
+}
+
+/// "Level 1"; 14 comes "after 3"; "reply 4 covers its bits at or above PL".
+#[test]
+fn refusals_of_the_words_of_ffr() {
+    let words = [0x252c_9000, 0x2528_90e0, 0x2519_f000, 0x2518_f000, 0x2558_f000]; // the second is WRFFR p7.b
+    let mut state = ready();
+    state.p[7] = low(0b101);
+    assert_eq!(words.map(|word| step(&mut state.clone(), word)), [0, 14, 0, 0, 0]);
+    assert_eq!(words.map(|word| step(&mut State { level: 1, ..state.clone() }, word)), [0, 14, 0, 0, 0]);
+    assert_eq!(words.map(|word| step(&mut State { access: false, ..state.clone() }, word)), [3; 5]);
+    assert_eq!(words.map(|word| step(&mut State { level: 0, access: false, ..state.clone() }, word)), [2; 5]);
+    let ran = run(&state, &words);
+    assert_eq!((ran.reply, ran.refused, ran.done, ran.state.ffr), (0, 14, 1, low(0xffff)));
+    state.ffr = low(0x1_0000);
+    assert_eq!(words.map(|word| step(&mut state.clone(), word)), [4; 5]);
+    assert_eq!(run(&state, &[]).reply, 4);
+    assert_eq!(walk(&state, 0, 1, 2, 3, 4, &mut [], 9).reply, 4);
+    assert_eq!(write(&state, &[], &mut []).reply, 4);
+    state.vl = 256;
+    assert_eq!(words.map(|word| step(&mut state.clone(), word)), [0, 14, 0, 0, 0]);
+}
+
+/// No other word touches FFR, nor does the walk.
+#[test]
+fn ffr_stays() {
+    let state = State { ffr: low(0x5a5a), ..truth_table() };
+    for word in 0x2500_0000..=0x25ff_ffff {
+        if decode(word).is_some_and(|row| !(12..=13).contains(&row[0])) && word.is_multiple_of(61) {
+            let mut stepped = state.clone();
+            assert_eq!((step(&mut stepped, word), stepped.ffr), (0, low(0x5a5a)), "{word:08x}");
+        }
+    }
+    let walked = walk(&State { x: [5; 31], ..state.clone() }, 0, 1, 31, 3, 4, &mut [0; 5], 9);
+    assert_eq!((walked.reply, walked.state.ffr), (0, low(0x5a5a)));
+}
+
 // ---- words ----
 
 #[test]
 fn fixed_words() {
+    assert_eq!(encode(&[12, 0, 0, 0, 0, 0, 0, 0, 0]), Some(0x252c_9000));
+    assert_eq!(encode(&[12, 1, 0, 0, 0, 0, 0, 0, 0]), None);
+    assert_eq!(encode(&[WRFFR, 5, 0, 0, 0, 0, 0, 0, 0]), Some(0x2528_9000 + 5 * 32));
+    assert_eq!(encode(&[RDFFR, 5, 0, 0, 0, 0, 0, 0, 0]), Some(0x2519_f000 + 5));
+    assert_eq!(encode(&[RDFFR_PG, 3, 5, 0, 0, 0, 0, 0, 0]), Some(0x2518_f000 + 3 * 32 + 5));
+    assert_eq!(encode(&[RDFFRS_PG, 3, 5, 0, 0, 0, 0, 0, 0]), Some(0x2558_f000 + 3 * 32 + 5));
+    assert_eq!(encode(&[RDFFRS_PG, 3, 16, 0, 0, 0, 0, 0, 0]), None);
     assert_eq!(encode(&[8, 3, 5, 0, 0, 0, 0, 0, 0]), Some(0x2558_c000 + 3 * 32 + 5));
     assert_eq!(encode(&[9, 3, 5, 0, 0, 0, 0, 0, 0]), Some(0x2550_c000 + 3 * 1024 + 5 * 32));
     assert_eq!(encode(&[10, 5, 0, 0, 0, 0, 0, 0, 0]), Some(0x2518_e400 + 5));
     assert_eq!(encode(&[10, 16, 0, 0, 0, 0, 0, 0, 0]), None);
     assert_eq!(encode(&[10, 5, 0, 0, 0, 0, 0, 0, 1]), None);
-    assert_eq!(encode(&[12, 0, 0, 0, 0, 0, 0, 0, 0]), None);
+    assert_eq!(encode(&[17, 0, 0, 0, 0, 0, 0, 0, 0]), None);
 }
 
 /// Every word that decodes is written back as itself, and there are as many as the forms' fields have values. All others are
 /// of an unsupported form.
 #[test]
 fn decode_and_encode_agree() {
-    let mut known = [0; 12];
+    let mut known = [0; 17];
     for word in 0x2500_0000..=0x25ff_ffff {
         if let Some(row) = decode(word) {
             assert_eq!(encode(&row), Some(word));
@@ -483,7 +627,7 @@ fn decode_and_encode_agree() {
             assert_eq!(decode_refusal(word), 13, "{word:08x}");
         }
     }
-    let field_bits = [20, 18, 19, 14, 12, 15, 12, 10, 8, 8, 4, 20];
+    let field_bits = [20, 18, 19, 14, 12, 15, 12, 10, 8, 8, 4, 20, 0, 4, 4, 8, 8];
     let mut values = field_bits.map(|bits| 1 << bits);
     values[11] -= 1 << 16; // SEL with S = 1 and any four registers
     assert_eq!(known, values);
@@ -549,8 +693,11 @@ fn refusals_of_a_walk_in_their_order() {
 
 // ---- images and the program ----
 
+/// The counts and contents of the sections at their largest: settings, X, P, FFR, flags, words.
+const LARGEST: usize = (4 + 3) + (4 + 31 * 8) + (4 + 16 * 32) + (4 + 32) + (4 + 4) + (4 + 4096 * 4);
+
 fn image_of(state: &State, words: &[u32]) -> Vec<u8> {
-    let mut image = vec![0; 17171];
+    let mut image = vec![0; LARGEST];
     let written = write(state, words, &mut image);
     assert_eq!(written.reply, 0);
     image.truncate(written.length);
@@ -593,8 +740,8 @@ fn the_program_with_another_last_word() {
 fn the_examples() {
     let folder = concat!(env!("CARGO_MANIFEST_DIR"), "/../../examples");
     for name in [
-        "first", "tail", "logic", "counters", "sparse", "level", "newer", "none", "cut", "empty", "count", "content",
-        "trailing",
+        "first", "old", "tail", "logic", "counters", "sparse", "ffr", "hole", "level", "newer", "none", "cut", "empty",
+        "count", "content", "trailing",
     ] {
         let image = fs::read(format!("{folder}/{name}.image")).unwrap();
         let lines = fs::read(format!("{folder}/{name}.out")).unwrap();
@@ -604,18 +751,18 @@ fn the_examples() {
 
 #[test]
 fn images_read_as_written() {
-    assert_eq!(image_of(&ready(), &[]).len(), 307);
+    assert_eq!(image_of(&ready(), &[]).len(), 313);
     let mut state = ready();
     (state.vl, state.x[30], state.flags.v) = (2048, 0x0123_4567_89ab_cdef, true);
-    state.p[15] = [1, 2, 3, u64::MAX];
+    (state.p[15], state.ffr) = ([1, 2, 3, u64::MAX], [u64::MAX, 5, 6, 1 << 63]);
     let image = image_of(&state, &[5; 4096]);
-    assert_eq!(image.len(), 17171);
+    assert_eq!(image.len(), LARGEST);
     let mut words = [9; 4097];
     let reading = read(&image, &mut words);
     assert_eq!((reading.reply, reading.count, reading.state), (0, 4096, state.clone()));
     assert_eq!((words[4095], words[4096]), (5, 9));
     assert_eq!(write(&state, &[0; 4097], &mut []).reply, 6);
-    assert_eq!(write(&state, &[], &mut [0; 786]).reply, 8);
+    assert_eq!(write(&state, &[], &mut [0; LARGEST - 4 * 4096 - 1]).reply, 8);
 }
 
 #[test]
@@ -630,13 +777,45 @@ fn refusals_of_an_image() {
         changed[place] = byte;
         reply(&changed)
     };
-    // The counts; VL, level and access; a flag.
-    for (place, byte) in [(0, 4), (7, 30), (259, 17), (295, 5), (304, 17), (4, 3), (5, 4), (6, 2), (302, 2)] {
+    // The counts, FFR's at 295; VL, level and access; a flag.
+    for (place, byte) in [(0, 4), (7, 30), (259, 17), (301, 5), (310, 17), (4, 3), (5, 4), (6, 2), (308, 2)] {
         assert_eq!(with(place, byte), 6, "byte {place}");
     }
-    assert_eq!(with(303, 4), 5); // one word more than there are
-    assert_eq!(with(303, 2), 7);
+    for (place, byte) in [(295, 0), (295, 2), (295, 3), (295, 5), (296, 1), (297, 1), (298, 1)] {
+        assert_eq!(with(place, byte), 6, "byte {place} as {byte}");
+    }
+    assert_eq!(with(295, 4), 6); // an old image: its flags are 0, 0, 4, 0
+    assert_eq!(with(300, 255), 0); // any bits of FFR are allowed
+    assert_eq!(with(309, 4), 5); // one word more than there are
+    assert_eq!(with(309, 2), 7);
     let reading = read(&image, &mut [0; 2]);
     assert_eq!((reading.reply, reading.count), (8, 0));
-    assert_eq!(reading.state, State { level: 0, access: false, ..ready() });
+    assert_eq!(reading.state, nothing());
+}
+
+/// "An image where the count there is 4 is an old one and reads with FFR all false"; "only a new image comes back byte for
+/// byte".
+#[test]
+fn old_images() {
+    for length in LENGTHS {
+        let (p_end, bytes) = (263 + length as usize / 4, length as usize / 64);
+        let state = State { vl: length, ffr: bits(1, 9), ..truth_table() };
+        let image = image_of(&state, &[1, 2, 3]);
+        let old = [&image[..p_end], &image[p_end + 4 + bytes..]].concat();
+        let mut words = [0; 3];
+        let reading = read(&old, &mut words);
+        assert_eq!((reading.reply, reading.count, words), (0, 3, [1, 2, 3]));
+        assert_eq!(reading.state, State { ffr: [0; 4], ..state });
+        let section = [&[1, 0, 0, 0][..], &vec![0; bytes]].concat();
+        assert_eq!(image_of(&reading.state, &words), [&old[..p_end], &section, &old[p_end..]].concat());
+        assert_eq!(old[p_end..p_end + 4], [4, 0, 0, 0]);
+        for end in 0..old.len() {
+            assert_eq!(read(&old[..end], &mut [0; 3]).reply, 5);
+        }
+        assert_eq!(read(&[&old[..], &[0]].concat(), &mut [0; 3]).reply, 7);
+        for count in [0, 2, 3] {
+            let section = [&[count, 0, 0, 0][..], &vec![0; usize::from(count) * bytes]].concat();
+            assert_eq!(read(&[&old[..p_end], &section, &old[p_end..]].concat(), &mut [0; 3]).reply, 6);
+        }
+    }
 }

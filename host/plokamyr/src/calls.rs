@@ -40,7 +40,7 @@ pub fn walk(state: &State, size: u32, n: u32, m: u32, d: u32, k: u32, list: &mut
 /// The most words that an image holds.
 pub const WORDS_MAX: usize = 4096;
 /// The most bytes that an image has.
-pub const IMAGE_MAX: usize = 17171;
+pub const IMAGE_MAX: usize = 17207;
 /// Room for the text of any image, in bytes.
 pub const TEXT_MAX: usize = 86026;
 
@@ -55,7 +55,8 @@ pub struct Reading {
     pub state: State,
 }
 
-/// Reads an image, and puts its words at the front of `words`; other places stay.
+/// Reads an image, and puts its words at the front of `words`; other places stay. An image of the older kind, without FFR,
+/// gives one that is all false.
 /// Refusals: 5 and 6 by the first section at fault, then 7, then 8.
 ///
 /// ```
@@ -82,15 +83,15 @@ pub struct Written {
     pub length: usize,
 }
 
-/// Writes the image of a state and words at the front of `image`; other bytes stay.
+/// Writes the image of a state, with its FFR, and of words at the front of `image`; other bytes stay.
 /// Refusals: 4, then 6 (more than 4,096 words), then 8.
 ///
 /// ```
 /// use plokamyr::{write, Reply, State};
 ///
 /// let written = write(&State::new(128, 1), &[], &mut [0; 400]);
-/// assert_eq!((written.reply, written.length), (Reply::Done, 307));
-/// assert_eq!(write(&State::new(128, 1), &[], &mut [0; 306]).reply, Reply::BufferTooSmall);
+/// assert_eq!((written.reply, written.length), (Reply::Done, 313));
+/// assert_eq!(write(&State::new(128, 1), &[], &mut [0; 312]).reply, Reply::BufferTooSmall);
 /// ```
 pub fn write(state: &State, words: &[u32], image: &mut [u8]) -> Written {
     let ffi::Written { reply, length } = ffi::write(state, words, image);

@@ -5,6 +5,7 @@
 
 use crate::{Flags, Predicate, Reply, State};
 use std::mem::{align_of, size_of};
+use std::ptr::addr_of_mut;
 
 /// A reply as C hands it over: a number, since an enum of Rust must not hold a stranger.
 pub type Number = u32;
@@ -40,6 +41,9 @@ pub struct Written {
 /// A form's number, then its fields.
 pub type RawRow = [u8; 9];
 
+/// P0 to P15 and then FFR.
+pub type Predicates = [Predicate; 17];
+
 /// What the walk is told beside state, list and budget.
 #[derive(Clone, Copy)]
 pub struct Route {
@@ -53,9 +57,9 @@ pub struct Route {
 // Where the fields lie, the tests below say.
 const _: () = {
     assert!(size_of::<Predicate>() == 32 && size_of::<Flags>() == 4);
-    assert!(size_of::<State>() == 776 && align_of::<State>() == 8);
-    assert!(size_of::<Ran>() == 16 && size_of::<Walked>() == 800);
-    assert!(size_of::<Reading>() == 792 && size_of::<Written>() == 16);
+    assert!(size_of::<State>() == 808 && align_of::<State>() == 8);
+    assert!(size_of::<Ran>() == 16 && size_of::<Walked>() == 832);
+    assert!(size_of::<Reading>() == 824 && size_of::<Written>() == 16);
 };
 
 extern "C" {
@@ -65,7 +69,7 @@ extern "C" {
         access: bool,
         flags: *mut Flags,
         x: *mut [u64; 31],
-        p: *mut [Predicate; 16],
+        p: *mut Predicates,
         word: u32,
     ) -> Number;
     fn plokamyr_step_lent(state: *mut State, word: u32) -> Number;
@@ -75,7 +79,7 @@ extern "C" {
         access: bool,
         flags: *mut Flags,
         x: *mut [u64; 31],
-        p: *mut [Predicate; 16],
+        p: *mut Predicates,
         words: *const u32,
         count: usize,
     ) -> Ran;
@@ -97,10 +101,20 @@ extern "C" {
     fn plokamyr_encode(row: *const RawRow, word: *mut u32) -> Number;
 }
 
+/// What a step or a run is lent of a state: its flags, its X, and its P with FFR. Each pointer is derived from the one to the
+/// whole state, so that the last may reach past `p` to `ffr`, which lies right after it.
+fn parts(state: &mut State) -> (*mut Flags, *mut [u64; 31], *mut Predicates) {
+    let state: *mut State = state;
+    // SAFETY: the state is valid, and its parts are named by their places alone: no reference to one is made.
+    unsafe { (addr_of_mut!((*state).flags), addr_of_mut!((*state).x), addr_of_mut!((*state).p).cast()) }
+}
+
 pub fn step(state: &mut State, word: u32) -> Reply {
-    let State { vl, level, access, flags, x, p } = state;
-    // SAFETY: the parts are lent for writing and for this call alone, lie apart, and have C's layout.
-    Reply::from_number(unsafe { plokamyr_step_parts(*vl, *level, *access, flags, x, p, word) })
+    let State { vl, level, access, .. } = *state;
+    let (flags, x, p) = parts(state);
+    // SAFETY: the parts are lent for writing and for this call alone, lie apart, and have C's layout. `p` and `ffr` are
+    // seventeen predicates one after the other, and the pointer to them comes from that to the state that holds both.
+    Reply::from_number(unsafe { plokamyr_step_parts(vl, level, access, flags, x, p, word) })
 }
 
 pub fn step_lent(state: &mut State, word: u32) -> Reply {
@@ -109,9 +123,10 @@ pub fn step_lent(state: &mut State, word: u32) -> Reply {
 }
 
 pub fn run(state: &mut State, words: &[u32]) -> Ran {
-    let State { vl, level, access, flags, x, p } = state;
+    let State { vl, level, access, .. } = *state;
+    let (flags, x, p) = parts(state);
     // SAFETY: the slice is readable for its length; of the parts the same holds as for a step.
-    unsafe { plokamyr_run_parts(*vl, *level, *access, flags, x, p, words.as_ptr(), words.len()) }
+    unsafe { plokamyr_run_parts(vl, level, access, flags, x, p, words.as_ptr(), words.len()) }
 }
 
 pub fn walk(state: &State, route: Route, list: &mut [u64], budget: u64) -> Walked {
@@ -162,7 +177,8 @@ mod tests {
     fn fields_lie_where_c_has_them() {
         let state = State::new(128, 1);
         assert_eq!((at(&state, &state.vl), at(&state, &state.level), at(&state, &state.access)), (0, 8, 9));
-        assert_eq!((at(&state, &state.flags), at(&state, &state.x), at(&state, &state.p)), (10, 16, 264));
+        assert_eq!((at(&state, &state.flags), at(&state, &state.x)), (10, 16));
+        assert_eq!((at(&state, &state.p), at(&state, &state.ffr)), (264, 264 + 16 * 32));
         let Flags { n, z, c, v } = &state.flags;
         assert_eq!([n, z, c, v].map(|flag| at(&state.flags, flag)), [0, 1, 2, 3]);
     }

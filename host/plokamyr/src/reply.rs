@@ -22,7 +22,7 @@ use std::fmt;
 /// # fn of_a_step(reply: Reply) -> bool {
 /// match reply {
 ///     Done => true,
-///     ForeignWord | UnsupportedForm | LevelTooLow | AccessOff | IllegalState => false,
+///     ForeignWord | UnsupportedForm | LevelTooLow | AccessOff | IllegalState | NotMonotonic => false,
 ///     ImageCut | NotAllowed | TrailingBytes | BufferTooSmall => false,
 ///     FieldPastRange | BadWalkRegisters | ListTooShort | BudgetSpent => false,
 ///     Other(_) => false,
@@ -41,7 +41,7 @@ pub enum Reply {
     LevelTooLow,
     /// 3.
     AccessOff,
-    /// 4: `vl` is none of the five, `level` is above 3, or a predicate has a bit at or above `vl / 8`.
+    /// 4: `vl` is none of the five, `level` is above 3, or a predicate or FFR has a bit at or above `vl / 8`.
     IllegalState,
     /// 5: the image ends before a section does.
     ImageCut,
@@ -61,6 +61,9 @@ pub enum Reply {
     BudgetSpent,
     /// 13: bits 31:24 of the word are 00100101, but its form is none of ours, as with SEL with S = 1.
     UnsupportedForm,
+    /// 14: WRFFR's Pn is not a run of ones from bit 0: a true bit stands above a false one. Arm calls such a run a monotonic
+    /// predicate; the empty and the full one count.
+    NotMonotonic,
     /// A number that has no name here. [`Reply::from_number`] gives it for no other.
     Other(u32),
 }
@@ -82,6 +85,7 @@ impl Reply {
         Reply::ListTooShort,
         Reply::BudgetSpent,
         Reply::UnsupportedForm,
+        Reply::NotMonotonic,
     ];
 
     /// The reply of a number.
@@ -100,7 +104,7 @@ impl Reply {
             Reply::ForeignWord => (1, "word is foreign: its bits 31:24 are not 00100101"),
             Reply::LevelTooLow => (2, "level is below what the instruction asks"),
             Reply::AccessOff => (3, "access is off"),
-            Reply::IllegalState => (4, "vector length, level or a predicate of the state is not allowed"),
+            Reply::IllegalState => (4, "vector length, level, a predicate or FFR of the state is not allowed"),
             Reply::ImageCut => (5, "image ends before a section does"),
             Reply::NotAllowed => (6, "count or byte of an image is not allowed"),
             Reply::TrailingBytes => (7, "image goes on after its last section"),
@@ -110,6 +114,7 @@ impl Reply {
             Reply::ListTooShort => (11, "list has fewer places than there are positions to visit"),
             Reply::BudgetSpent => (12, "budget is spent before the walk has ended"),
             Reply::UnsupportedForm => (13, "form of the word is not supported, though its bits 31:24 are 00100101"),
+            Reply::NotMonotonic => (14, "predicate to be written to FFR is not a run of ones from bit 0"),
             Reply::Other(number) => (number, "reply without a name here"),
         }
     }

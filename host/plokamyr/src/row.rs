@@ -21,6 +21,7 @@ use crate::{ffi, Reply};
 /// match form {
 ///     Saturating | IncDec | Cntp | CntpCounter => true,
 ///     WhileOne | WhilePair | WhileCounter | Pnext | Pfirst | Ptest | Pfalse | Logic => false,
+///     Setffr | Wrffr | Rdffr | RdffrPg | RdffrsPg => false,
 ///     Other(_) => false,
 /// }
 /// # }
@@ -53,6 +54,16 @@ pub enum Form {
     /// 11: by op, o2, o3 AND, BIC, EOR, SEL, ORR, ORN, NOR, NAND, from 000 to 111. S is 1 if it sets the flags, which SEL
     /// cannot: SEL with S = 1 is no instruction.
     Logic,
+    /// 12: all bits of FFR become true.
+    Setffr,
+    /// 13.
+    Wrffr,
+    /// 14.
+    Rdffr,
+    /// 15: FFR and Pg.
+    RdffrPg,
+    /// 16: the same, and the flags.
+    RdffrsPg,
     /// A number that has no name here. [`Form::from_number`] gives it for no other.
     Other(u8),
 }
@@ -72,6 +83,11 @@ impl Form {
         Form::Ptest,
         Form::Pfalse,
         Form::Logic,
+        Form::Setffr,
+        Form::Wrffr,
+        Form::Rdffr,
+        Form::RdffrPg,
+        Form::RdffrsPg,
     ];
 
     /// The form of a number.
@@ -103,6 +119,11 @@ impl Form {
             Form::Ptest => (9, &["Pg", "Pn"]),
             Form::Pfalse => (10, &["Pd"]),
             Form::Logic => (11, &["op", "S", "Pm", "Pg", "o2", "Pn", "o3", "Pd"]),
+            Form::Setffr => (12, &[]),
+            Form::Wrffr => (13, &["Pn"]),
+            Form::Rdffr => (14, &["Pd"]),
+            Form::RdffrPg => (15, &["Pg", "Pd"]),
+            Form::RdffrsPg => (16, &["Pg", "Pd"]),
             Form::Other(number) => (number, &[]),
         }
     }
@@ -191,7 +212,7 @@ mod tests {
 
     #[test]
     fn a_form_without_a_name_keeps_its_number_and_fields() {
-        for number in [12, 13, 255] {
+        for number in [17, 18, 255] {
             let raw = [number, 1, 2, 3, 4, 5, 6, 7, 8];
             let row = row_of(raw);
             assert_eq!(row, Row { form: Form::Other(number), fields: [1, 2, 3, 4, 5, 6, 7, 8] });

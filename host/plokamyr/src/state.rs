@@ -82,6 +82,8 @@ pub struct State {
     pub flags: Flags,
     pub x: [u64; 31],
     pub p: [Predicate; 16],
+    /// The first-fault register. As a predicate, it may hold any bits below `vl / 8`.
+    pub ffr: Predicate,
 }
 
 impl State {
@@ -94,11 +96,12 @@ impl State {
     /// assert_eq!(State::new(100, 1).step(0x2518_E400), Reply::IllegalState);
     /// ```
     pub fn new(vl: u64, level: u8) -> State {
-        State { vl, level, access: true, flags: Flags::default(), x: [0; 31], p: [Predicate::default(); 16] }
+        let (flags, none) = (Flags::default(), Predicate::default());
+        State { vl, level, access: true, flags, x: [0; 31], p: [none; 16], ffr: none }
     }
 
     /// Executes one instruction word where the state stands; nothing is copied.
-    /// Refusals, which leave the state as it was, the first that applies: 4, 1 or 13, 2, 3.
+    /// Refusals, which leave the state as it was, the first that applies: 4, 1 or 13, 2, 3, 14 (WRFFR alone).
     ///
     /// ```
     /// use plokamyr::{Reply, State};
@@ -107,6 +110,19 @@ impl State {
     /// let before = state.clone();
     /// assert_eq!(state.step(0x2518_E400), Reply::LevelTooLow); // PFALSE p0 asks level 1
     /// assert_eq!(state, before);
+    /// ```
+    ///
+    /// FFR takes a run of ones from bit 0, and no other predicate:
+    ///
+    /// ```
+    /// use plokamyr::{Predicate, Reply, State};
+    ///
+    /// let mut state = State::new(128, 1);
+    /// state.p[2] = Predicate::from(0b0111);
+    /// assert_eq!(state.step(0x2528_9040), Reply::Done); // WRFFR p2.b
+    /// state.p[2] = Predicate::from(0b1011);
+    /// assert_eq!(state.step(0x2528_9040), Reply::NotMonotonic);
+    /// assert_eq!(state.ffr, Predicate::from(0b0111));
     /// ```
     pub fn step(&mut self, word: u32) -> Reply {
         ffi::step(self, word)
@@ -123,7 +139,7 @@ impl State {
         ffi::step_lent(self, word)
     }
 
-    /// Executes words one after the other, until one is refused (1 or 13, 2, 3). The state is then what the words done left.
+    /// Executes words one after the other, until one is refused (1 or 13, 2, 3, 14). The state is then what the words done left.
     /// Refusal, which leaves the state as it was: 4, even if there are no words. The faster way for more than one word.
     ///
     /// ```

@@ -1,6 +1,6 @@
 //! What `docs/FORMAT.md` says in tables and hex, held to the library and to an example.
 
-use plokamyr::{encode, read, text, Form, Predicate, Reply, Row, State, WORDS_MAX};
+use plokamyr::{encode, read, text, write, Form, Predicate, Reply, Row, State, IMAGE_MAX, WORDS_MAX};
 use std::fs;
 use std::path::PathBuf;
 
@@ -57,6 +57,41 @@ fn the_image_is_the_example() {
     }
     assert_eq!(image, file("examples/first.image"));
     assert_eq!(read(&image, &mut [0; WORDS_MAX]).reply, Reply::Done);
+}
+
+/// A number with a comma before its last three digits, as the document writes it.
+fn grouped(number: usize) -> String {
+    format!("{},{:03}", number / 1000, number % 1000)
+}
+
+/// The lengths that the document gives: the least, and the most.
+#[test]
+fn lengths() {
+    let length = |vl: u64, words: usize| {
+        let vl = vl as usize;
+        279 + vl / 4 + vl / 64 + 4 * words
+    };
+    assert!(section("The image").contains("279 + VL/4 + VL/64 + 4w bytes"));
+    assert_eq!(length(2048, WORDS_MAX), IMAGE_MAX);
+    assert!(section("The image").contains(&format!("{} with {} at VL 2048", grouped(IMAGE_MAX), grouped(WORDS_MAX))));
+    for vl in [128, 256, 512, 1024, 2048] {
+        let mut image = vec![0; IMAGE_MAX];
+        assert_eq!(write(&State::new(vl, 1), &[7; 3], &mut image).length, length(vl, 3));
+    }
+    assert!(section("The image").contains(&format!("{} without words at VL 128", length(128, 0))));
+}
+
+/// The same image in the older kind: without the bytes that the document names, and written back with them.
+#[test]
+fn the_old_image_is_the_example() {
+    let (first, old) = (file("examples/first.image"), file("examples/old.image"));
+    assert!(section("The image").contains("it has no bytes 295 to 300"));
+    assert_eq!(old, [&first[..295], &first[301..]].concat());
+    let mut words = [0; WORDS_MAX];
+    let reading = read(&old, &mut words);
+    let mut image = vec![0; first.len()];
+    assert_eq!(write(&reading.state, &words[..reading.count], &mut image).length, first.len());
+    assert_eq!((image, text(&old)), (first.clone(), text(&first)));
 }
 
 #[test]

@@ -1,4 +1,4 @@
-//! Each of the fourteen replies, through the wrapper, with what it leaves as it was.
+//! Each of the fifteen replies, through the wrapper, with what it leaves as it was.
 
 use plokamyr::{decode, encode, read, text, text_in, walk, write, Form, Predicate, Ran, Reply, Row, State};
 use std::collections::HashSet;
@@ -62,6 +62,41 @@ fn steps() {
     expect_refused(&changed(|state| state.level = 4), PFALSE, Reply::IllegalState);
     let past = changed(|state| state.p[15] = Predicate::from(0x1_0000));
     expect_refused(&past, PFALSE, Reply::IllegalState);
+    let past = changed(|state| state.ffr = Predicate::from(0x1_0000));
+    expect_refused(&past, PFALSE, Reply::IllegalState);
+}
+
+/// WRFFR of P5, which the state has as 00A5.
+const WRFFR: u32 = 0x2528_90A0;
+
+/// 14 comes last, and only for a predicate that is no run of ones from bit 0.
+#[test]
+fn writes_to_ffr() {
+    expect_refused(&state(), WRFFR, Reply::NotMonotonic);
+    expect_refused(&changed(|state| state.access = false), WRFFR, Reply::AccessOff);
+    expect_refused(&changed(|state| state.level = 0), WRFFR, Reply::LevelTooLow);
+    expect_refused(&changed(|state| state.level = 4), WRFFR, Reply::IllegalState);
+    expect_no_run(&state(), &[WRFFR, PFALSE], Reply::Done, Reply::NotMonotonic);
+    let runs = (0..=16).map(|length| (1 << length) - 1);
+    for run in runs.map(Predicate::from) {
+        let mut stepped = changed(|state| state.p[5] = run);
+        let mut expected = stepped.clone();
+        expected.ffr = run;
+        assert_eq!(stepped.step(WRFFR), Reply::Done);
+        assert_eq!(stepped, expected);
+    }
+}
+
+/// The other four words of FFR; under Pg the result is FFR and Pg, and the last sets the flags.
+#[test]
+fn reads_of_ffr() {
+    let mut state = changed(|state| state.ffr = Predicate::from(0x00FF));
+    let words = [0x2519_F001, 0x2518_F0A2, 0x2558_F0A3, 0x252C_9000]; // RDFFR p1; p2 and p3 under p5; SETFFR
+    let mut expected = state.clone();
+    expected.p[1..4].copy_from_slice(&[0x00FF, 0x00A5, 0x00A5].map(Predicate::from));
+    (expected.ffr, expected.flags.n) = (Predicate::from(0xFFFF), true);
+    assert_eq!(parts(state.run(&words)), (Reply::Done, Reply::Done, 4));
+    assert_eq!(state, expected);
 }
 
 #[test]
@@ -125,9 +160,9 @@ fn a_spent_budget_keeps_its_work() {
 
 #[test]
 fn images() {
-    let mut image = [0; 320];
+    let mut image = [0; 330];
     let length = write(&state(), &[1, 2], &mut image).length;
-    assert_eq!(length, 307 + 8);
+    assert_eq!(length, 313 + 8);
     let expect = |bytes: &[u8], places: usize, reply: Reply| {
         let mut words = vec![7; places];
         let reading = read(bytes, &mut words);
@@ -143,6 +178,24 @@ fn images() {
     expect(&image[..length], 1, Reply::BufferTooSmall);
 }
 
+/// An image of the older kind has no FFR: the count of the flags stands where that of FFR would.
+#[test]
+fn an_old_image_gets_an_ffr() {
+    let (mut image, mut words) = ([0; 321], [0; 2]);
+    let given = changed(|state| state.ffr = Predicate::from(0x8001));
+    assert_eq!(write(&given, &[1, 2], &mut image).length, image.len());
+    let (ffr, flags) = (7 + 252 + 36, 7 + 252 + 36 + 6);
+    let mut old = [&image[..ffr], &image[flags..]].concat();
+    let reading = read(&old, &mut words);
+    assert_eq!((reading.reply, reading.state, words), (Reply::Done, state(), [1, 2]));
+    image[ffr + 4..flags].fill(0);
+    let mut again = [7; 321];
+    assert_eq!(write(&state(), &words, &mut again).length, image.len());
+    assert_eq!(again, image);
+    old[ffr] = 2; // neither FFR's count nor the flags'
+    assert_eq!(read(&old, &mut words).reply, Reply::NotAllowed);
+}
+
 #[test]
 fn writes() {
     let expect = |state: &State, count: usize, room: usize, reply: Reply| {
@@ -153,7 +206,7 @@ fn writes() {
     };
     expect(&changed(|state| state.vl = 0), 5000, 0, Reply::IllegalState);
     expect(&state(), 4097, 0, Reply::NotAllowed);
-    expect(&state(), 0, 306, Reply::BufferTooSmall);
+    expect(&state(), 0, 312, Reply::BufferTooSmall);
     expect(&state(), 0, 0, Reply::BufferTooSmall);
 }
 
@@ -198,7 +251,7 @@ fn sel_with_s() {
 
 #[test]
 fn a_form_without_a_name() {
-    for number in [12, 13, 255] {
+    for number in [17, 18, 255] {
         let form = Form::from_number(number);
         assert_eq!((form, form.number()), (Form::Other(number), number));
         assert!(form.field_names().is_empty() && Row::new(form, &[]).is_none());
@@ -208,7 +261,7 @@ fn a_form_without_a_name() {
 
 #[test]
 fn a_reply_without_a_name() {
-    for number in [14, 17, 256, u32::MAX] {
+    for number in [15, 17, 256, u32::MAX] {
         let reply = Reply::from_number(number);
         assert_eq!((reply, reply.number()), (Reply::Other(number), number));
         assert_eq!(reply.to_string(), format!("reply without a name here (reply {number})"));

@@ -1,7 +1,7 @@
 -- `compute` meets its contract. Assumes nothing.
-use borrow.Author.Needs.{needs}
 use Rattle.instructions.specs.Instructions.{computeOf}
 use Rattle.instructions.proofs.Effects.{by-form}
+use borrow.Author.Needs.{needs}
 use Rattle.instructions.proofs.compute.Statement.{statement}
 use Rattle.instructions.proofs.compute.Tie as tie
 
@@ -65,6 +65,36 @@ enum-known-i-7 c = search needs
 logic-requires : tie.Need-logic-requires
 logic-requires c κs = search needs
 
+enum-told-4 : tie.Need-enum-told-4
+enum-told-4 c = search needs
+
+setffr-requires : tie.Need-setffr-requires
+setffr-requires c κs = search needs
+
+enum-told-5 : tie.Need-enum-told-5
+enum-told-5 c = search needs
+
+moved-requires : tie.Need-moved-requires
+moved-requires c κs = search needs
+
+enum-told-6 : tie.Need-enum-told-6
+enum-told-6 c = search needs
+
+moved-requires-2 : tie.Need-moved-requires-2
+moved-requires-2 c κs = search needs
+
+enum-told-7 : tie.Need-enum-told-7
+enum-told-7 c = search needs
+
+rdffr-pg-requires : tie.Need-rdffr-pg-requires
+rdffr-pg-requires c κs = search needs
+
+enum-told-8 : tie.Need-enum-told-8
+enum-told-8 c = search needs
+
+rdffrs-pg-requires : tie.Need-rdffrs-pg-requires
+rdffrs-pg-requires c κs = search needs
+
 returns : tie.Need-returns
 unfolding computeOf
 returns c = search (by-form, needs) depth 9
@@ -105,6 +135,26 @@ returns-10 : tie.Need-returns-10
 unfolding computeOf
 returns-10 c = search (by-form, needs) depth 9
 
+returns-11 : tie.Need-returns-11
+unfolding computeOf
+returns-11 c = search (by-form, needs) depth 9
+
+returns-12 : tie.Need-returns-12
+unfolding computeOf
+returns-12 c = search (by-form, needs) depth 9
+
+returns-13 : tie.Need-returns-13
+unfolding computeOf
+returns-13 c = search (by-form, needs) depth 9
+
+returns-14 : tie.Need-returns-14
+unfolding computeOf
+returns-14 c = search (by-form, needs) depth 9
+
+returns-15 : tie.Need-returns-15
+unfolding computeOf
+returns-15 c = search (by-form, needs) depth 9
+
 pub compute-spec : {M : Type 1} → statement M
 compute-spec =
     tie.close
@@ -129,6 +179,16 @@ compute-spec =
     pfalse-requires
     enum-known-i-7
     logic-requires
+    enum-told-4
+    setffr-requires
+    enum-told-5
+    moved-requires
+    enum-told-6
+    moved-requires-2
+    enum-told-7
+    rdffr-pg-requires
+    enum-told-8
+    rdffrs-pg-requires
     returns
     returns-2
     returns-3
@@ -138,4 +198,9 @@ compute-spec =
     returns-7
     returns-8
     returns-9
-    returns-10)
+    returns-10
+    returns-11
+    returns-12
+    returns-13
+    returns-14
+    returns-15)

@@ -10,10 +10,10 @@ use Rattle.registers.proofs.union.Statement.{statement}
 use Rattle.registers.proofs.union.Tie as tie
 
 abbrev Inv-loop : tie.InvT-loop
-Inv-loop p q₀ i₀ q i = (i ≤ 16) × (q ≡ unionOf p i)
+Inv-loop p q₀ i₀ q i = (i ≤ 17) × (q ≡ unionOf p i)
 
 abbrev μ-loop : tie.MeasureT-loop
-μ-loop p q₀ i₀ q i = 16 - i
+μ-loop p q₀ i₀ q i = 17 - i
 
 none-requires : tie.Need-none-requires Inv-loop μ-loop
 none-requires c κs = search needs
@@ -40,11 +40,11 @@ loop-again : tie.Need-loop-again Inv-loop μ-loop
 loop-again c =
     let ps = c .before .before .before .before .before .args .t1 in
     let i = c .before .before .before .loop .i in
-    let l : length ps ≡ 16 = search (needs, length-mapped) in
+    let l : length ps ≡ 17 = search (needs, length-mapped) in
     (omega arith, union-more ps i _ _ _ (default-any ps i _ _ (omega arith)) (c .before .before .before .loop .inv .1) (c .or .ensures))
 
 returns : tie.Need-returns Inv-loop μ-loop
-returns c = let e : c .before .loop .i ≡ 16 = omega arith in c .before .loop .inv .1 ∙ ap (unionOf (c .before .before .before .args .t1)) e
+returns c = let e : c .before .loop .i ≡ 17 = omega arith in c .before .loop .inv .1 ∙ ap (unionOf (c .before .before .before .args .t1)) e
 
 pub union-spec : {M : Type 1} → statement M
 union-spec =

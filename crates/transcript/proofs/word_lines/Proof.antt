@@ -1,6 +1,6 @@
 -- `word_lines` meets its contract. Assumes nothing.
 use mathlib.Core.List.{List}
-use mathlib.Core.Path.{_≡_, refl, sym, ap, _∙_}
+use mathlib.Core.Path.{_≡_, ap, _∙_}
 use Prim.Native.Nat.{ℕ, _-_, _≤_}
 use native.Mathlib.Omega.{arith}
 use lib.ListN.{length, drop}
@@ -14,7 +14,7 @@ use Rattle.transcript.proofs.word_lines.Tie as tie
 
 abbrev Inv-loop : tie.InvT-loop
 Inv-loop words out₀ settings flags₀ x₀ p₀ at₀ done₀ out flags x p at done =
-    (done ≤ length words) × (length x ≡ 31) × (length p ≡ 16)
+    (done ≤ length words) × (length x ≡ 31) × (length p ≡ 17)
     × Same (linesOf (stateAt settings flags x p) done (drop done words)) at out (linesOf (stateAt settings flags₀ x₀ p₀) 0 words) 0 out₀
 
 abbrev μ-loop : tie.MeasureT-loop

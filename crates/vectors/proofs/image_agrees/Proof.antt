@@ -43,18 +43,26 @@ slice-aggregate-first-words c = search needs
 first-words-requires : tie.Need-first-words-requires
 first-words-requires c κs = search needs
 
+past-block-requires : tie.Need-past-block-requires
+past-block-requires c κs = search needs
+
+block-requires-2 : tie.Need-block-requires-2
+block-requires-2 c κs = search needs
+
 image-is-requires : tie.Need-image-is-requires
 image-is-requires c κs = search needs
 
 returns-3 : tie.Need-returns-3
 returns-3 c =
-    let f = c .before in
+    let back = c .before in
+    let f = back .before .before in
     let e2 = f .before .before .before in
     let e = e2 .before .before in
     let r = e .before .before .before .before in
     λ h.
     image-agrees _ _ _ _ _ _ _ _ _ refl (r .before .before .before .after .ensures) (r .before .before .block .ensures) (r .read .ensures .0) (r .read .ensures .1)
-    (e .before .before .number .ensures) (e .before .byte .ensures) (e .if1 .left) (e2 .before .number2 .ensures) _ (e2 .if2 .left) (f .first-words .ensures) (c .image-is .ensures h)
+    (e .before .before .number .ensures) (e .before .byte .ensures) (e .if1 .left) (e2 .before .number2 .ensures) _ _ _ (e2 .if2 .left) (f .first-words .ensures)
+    (back .before .past-block .ensures) (back .block2 .ensures) (c .image-is .ensures h)
 
 pub image-agrees-spec : {M : Type 1} → statement M
 image-agrees-spec =
@@ -71,5 +79,7 @@ image-agrees-spec =
     returns-2
     slice-aggregate-first-words
     first-words-requires
+    past-block-requires
+    block-requires-2
     image-is-requires
     returns-3)

@@ -3,26 +3,33 @@
 #![forbid(unsafe_code)]
 
 use compare::counter::Reading;
+use compare::damage::{self, Age, AGES};
+use compare::instructions::{short_word, RDFFR, RDFFRS_PG, RDFFR_PG, SETFFR, WRFFR};
 use compare::random::Random;
 use compare::routes::{route, Bounds};
-use compare::{damage, instructions, states};
+use compare::{instructions, states};
 use model::State;
 use std::collections::BTreeMap;
 use std::io::Write;
 
 const INSTRUCTIONS: u64 = 3_000;
-const IMAGES: u64 = 150;
+const IMAGES: u64 = 220;
 const WALKS: u64 = 150;
-const LARGEST: usize = 700_000;
+const LARGEST: usize = 880_000;
 
 const RUN: u8 = 1;
 const IMAGE: u8 = 2;
 const WALK: u8 = 3;
 
-/// Searches are runs too, drawn apart from the others, and so are runs that come to a word that is none of ours.
+/// Searches are runs too, drawn apart from the others, and so are runs that come to a word that is none of ours, and those of
+/// FFR's words.
 const SEARCH: u64 = 4;
 const SIZES: [u8; 4] = [0, 1, 2, 3];
 const REFUSED: u64 = 5;
+const FFR: u64 = 6;
+
+/// Counts of FFR's section, with as many times its bytes.
+const FFRS: [u32; 4] = [0, 2, 3, 4];
 
 type Draw = fn(&mut Random) -> u32;
 
@@ -54,7 +61,11 @@ fn main() {
         number += 1;
     }
     for number in 0..IMAGES {
-        image(&mut file, &mut Random::new(seed, u64::from(IMAGE), number));
+        let age = AGES[number as usize % AGES.len()];
+        image(&mut file, &mut Random::new(seed, u64::from(IMAGE), number), age);
+    }
+    for (number, count) in (IMAGES..).zip(FFRS) {
+        several_ffrs(&mut file, &mut Random::new(seed, u64::from(IMAGE), number), count);
     }
     for number in 0..WALKS {
         walk(&mut file, &mut Random::new(seed, u64::from(WALK), number), number);
@@ -66,6 +77,11 @@ fn main() {
     }
     for number in 0..(NOT_OURS.len() * PLACES.len()) as u64 {
         refused(&mut file, &mut Random::new(seed, REFUSED, number), number as usize);
+    }
+    for (number, vl) in states::LENGTHS.into_iter().enumerate() {
+        let random = &mut Random::new(seed, FFR, number as u64);
+        ffr_words(&mut file, random, vl);
+        PLACES.iter().for_each(|&place| write_of_no_run(&mut file, random, vl, place));
     }
     file.say_and_check();
     std::io::stdout().write_all(&file.bytes).expect("standard output takes the file");
@@ -109,7 +125,10 @@ fn expected() -> Vec<String> {
         list.extend(states::LENGTHS.map(|vl| executed(form, vl)));
     }
     list.extend([0, 1, 2, 3].map(|level| format!("runs at level {level}")));
-    list.extend([0, 1, 2, 3, 13].map(stopped_by));
+    list.extend([0, 1, 2, 3, 13, 14].map(stopped_by));
+    list.extend(states::LENGTHS.map(|vl| no_run(vl, 14)));
+    list.extend([2, 3].map(|reply| no_run(2048, reply)));
+    list.push(FFR_NOT_A_RUN.to_string());
     for (what, _) in NOT_OURS {
         list.extend(PLACES.map(|(place, ..)| stopped_at(what, place)));
     }
@@ -118,7 +137,10 @@ fn expected() -> Vec<String> {
         list.extend(states::LENGTHS.map(|vl| searched(size, vl, true)));
         list.extend(states::LENGTHS.map(|vl| searched(size, vl, false)));
     }
-    list.extend([0, 5, 6, 7].map(|reply| reply_of(IMAGE, reply)));
+    for age in AGES {
+        list.extend([0, 5, 6, 7].map(|reply| reply_to_image(age, reply)));
+    }
+    list.extend([0, 2, 3, 5].map(count_at_ffr));
     list.extend([0, 2, 3, 10, 11, 12].map(|reply| reply_of(WALK, reply)));
     list
 }
@@ -147,14 +169,34 @@ fn stopped_at(what: &str, place: &str) -> String {
     format!("runs stopped by {what} {place}")
 }
 
+/// A WRFFR of what is no run of ones, and its reply.
+fn no_run(vl: u64, reply: u8) -> String {
+    format!("WRFFR of no run of ones at {vl} refused with {reply}")
+}
+
+const FFR_NOT_A_RUN: &str = "runs from an FFR not a run of ones";
+
+/// By the count at FFR's place before it was damaged.
+fn reply_to_image(age: Age, reply: u8) -> String {
+    format!("{age:?} images with reply {reply}")
+}
+
+fn count_at_ffr(count: u32) -> String {
+    format!("images with the count {count} at FFR's place")
+}
+
 fn reply_of(kind: u8, reply: u8) -> String {
     format!("kind {kind} with reply {reply}")
 }
 
+/// Bytes after their length.
+fn push_block(rest: &mut Vec<u8>, bytes: &[u8]) {
+    rest.extend((bytes.len() as u32).to_le_bytes());
+    rest.extend(bytes);
+}
+
 fn push_image(rest: &mut Vec<u8>, state: &State, words: &[u32]) {
-    let image = damage::image(state, words);
-    rest.extend((image.len() as u32).to_le_bytes());
-    rest.extend(image);
+    push_block(rest, &damage::image(state, words));
 }
 
 fn run(file: &mut File, random: &mut Random, number: u64) {
@@ -163,7 +205,10 @@ fn run(file: &mut File, random: &mut Random, number: u64) {
     state.level = if number % 10 < 3 { (number % 10) as u8 } else { 3 };
     let count = if state.access { 1 + random.below(12) } else { 1 + random.below(2) };
     let count = if state.level == 0 { count.min(2) } else { count };
-    let words: Vec<u32> = (0..count).map(|at| word(random, state.level, number + at)).collect();
+    let mut words: Vec<u32> = (0..count).map(|at| word(random, state.level, number + at)).collect();
+    if !random.one_in(8) {
+        instructions::prepare_writes(random, &mut words);
+    }
     for &word in words.iter().rev() {
         instructions::tie(random, &mut state, word);
     }
@@ -180,8 +225,15 @@ fn store_run(file: &mut File, mut state: State, words: &[u32]) {
     file.record(RUN, &rest);
     file.executed += ran.done as u64;
     file.see(stopped_by(ran.refused));
-    if let Some(&word) = words.get(ran.done).filter(|&&word| model::decode(word).is_none()) {
-        see_refused(file, &state, word, ran.done);
+    if !states::is_run(&state.ffr) {
+        file.see(FFR_NOT_A_RUN.to_string());
+    }
+    match words.get(ran.done).map(|&word| (word, model::decode(word))) {
+        Some((word, None)) => see_refused(file, &state, word, ran.done),
+        Some((_, Some([WRFFR, pn, ..]))) if !states::is_run(&ran.state.p[usize::from(pn)]) => {
+            file.see(no_run(state.vl, ran.refused))
+        }
+        _ => {}
     }
     file.see(format!("runs at level {}", state.level));
     for &word in &words[..ran.done] {
@@ -286,18 +338,77 @@ fn word(random: &mut Random, level: u8, turn: u64) -> u32 {
     }
 }
 
-fn image(file: &mut File, random: &mut Random) {
+/// The five words of FFR in one run, so that what each gives is there at its end: registers of their own, the flags, FFR.
+fn ffr_words(file: &mut File, random: &mut Random, vl: u64) {
+    let mut state = states::legal(random, vl);
+    (state.level, state.access) = (1, true);
+    state.ffr = states::shaped(random, vl, states::Shape::Dense);
+    let first = random.below(16);
+    let [mask, run, a, b, c, d] = [0, 1, 2, 3, 4, 5].map(|i| ((first + i) % 16) as u8);
+    state.p[usize::from(mask)] = states::shaped(random, vl, states::Shape::Dense);
+    state.p[usize::from(run)] = states::run(random.below(vl / 8 + 1));
+    let words = [
+        short_word(RDFFRS_PG, &[mask, a]),
+        short_word(RDFFR, &[b]),
+        short_word(SETFFR, &[]),
+        short_word(RDFFR, &[c]),
+        short_word(WRFFR, &[run]),
+        short_word(RDFFR_PG, &[mask, d]),
+        short_word(RDFFR_PG, &[mask, mask]),
+    ];
+    store_run(file, state, &words);
+}
+
+/// A WRFFR of a run of ones with one bit changed so that it is none, with the level and the access of a place.
+fn write_of_no_run(file: &mut File, random: &mut Random, vl: u64, (_, level, access): (&str, u8, bool)) {
+    let mut state = states::legal(random, vl);
+    (state.level, state.access) = (level, access);
+    let pn = random.below(16) as u8;
+    let predicate = &mut state.p[usize::from(pn)];
+    while states::is_run(predicate) {
+        *predicate = states::near_run(random, vl);
+    }
+    let words = [short_word(SETFFR, &[]), short_word(WRFFR, &[pn]), short_word(RDFFR, &[pn])];
+    let first = if level > 0 && access { 0 } else { 1 };
+    store_run(file, state, &words[first..]);
+}
+
+/// The reply, the image, and the image that it is written back as; none for one that is refused.
+fn image(file: &mut File, random: &mut Random, age: Age) {
     let vl = random.pick(&LENGTHS);
     let state = states::legal(random, vl);
     let words: Vec<u32> = (0..random.below(6)).map(|_| instructions::any(random)).collect();
-    let image = damage::image(&state, &words);
-    let image = damage::damaged(&image, damage::any(random, &image, vl));
-    let reply = model::read(&image, &mut [0; 4096]).reply;
-    let mut rest = vec![reply];
-    rest.extend((image.len() as u32).to_le_bytes());
-    rest.extend(image);
+    let image = damage::image_of(age, &state, &words);
+    let image = damage::damaged(&image, damage::any(random, &image, age, vl));
+    let reply = store_image(file, &image);
+    file.see(reply_to_image(age, reply));
+}
+
+/// An image that is whole but for the number of its FFRs. All are empty, so that with the count 4, which is an old image's, their
+/// bytes are flags and a count of words.
+fn several_ffrs(file: &mut File, random: &mut Random, count: u32) {
+    let mut state = states::legal(random, 128);
+    state.ffr = [0; 4];
+    let reply = store_image(file, &damage::with_ffrs(&state, &[instructions::accepted(random)], count));
+    assert_eq!(reply, if count == 4 { 7 } else { 6 });
+}
+
+/// Answers the second program's reply.
+fn store_image(file: &mut File, image: &[u8]) -> u8 {
+    let mut words = [0; 4096];
+    let reading = model::read(image, &mut words);
+    let back = match reading.reply {
+        0 => damage::image(&reading.state, &words[..reading.count]),
+        _ => Vec::new(),
+    };
+    let mut rest = vec![reading.reply];
+    push_block(&mut rest, image);
+    push_block(&mut rest, &back);
     file.record(IMAGE, &rest);
-    file.see(reply_of(IMAGE, reply));
+    if let Some(count @ 0..=5) = damage::count_at_ffr(image) {
+        file.see(count_at_ffr(count));
+    }
+    reading.reply
 }
 
 fn walk(file: &mut File, random: &mut Random, number: u64) {

@@ -28,6 +28,9 @@ x-of-requires c κs = search needs
 content-of-requires-3 : tie.Need-content-of-requires-3
 content-of-requires-3 c κs = search needs
 
+ffr-of-requires : tie.Need-ffr-of-requires
+ffr-of-requires c κs = search needs
+
 predicates-of-requires : tie.Need-predicates-of-requires
 predicates-of-requires c κs = search needs
 
@@ -40,11 +43,11 @@ new-requires c κs = search needs
 returns : tie.Need-returns
 returns c =
     let p = c .before .before in
-    let x = p .before .before in
+    let x = p .before .before .before in
     let f = x .before .before in
     let s = f .before .before in
-    state-from _ _ _ _ _ _ _ _ _ _ _ _ (c .new .ensures) (s .before .before .vector-length .ensures .0) (s .before .after .ensures) (c .before .byte2 .ensures) (s .byte .ensures)
-    (f .flags-of .ensures) (f .before .content-of .ensures) (x .x-of .ensures) (x .before .content-of2 .ensures) (p .predicates-of .ensures) (p .before .content-of3 .ensures)
+    state-from _ _ _ _ _ _ _ _ _ _ _ _ _ (c .new .ensures) (s .before .before .vector-length .ensures .0) (s .before .after .ensures) (c .before .byte2 .ensures) (s .byte .ensures)
+    (f .flags-of .ensures) (f .before .content-of .ensures) (x .x-of .ensures) (x .before .content-of2 .ensures) (p .predicates-of .ensures) (p .before .before .content-of3 .ensures) (p .before .ffr-of .ensures)
 
 pub state-of-spec : {M : Type 1} → statement M
 state-of-spec =
@@ -58,6 +61,7 @@ state-of-spec =
     content-of-requires-2
     x-of-requires
     content-of-requires-3
+    ffr-of-requires
     predicates-of-requires
     byte-requires-2
     new-requires

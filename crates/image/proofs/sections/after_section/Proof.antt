@@ -1,13 +1,19 @@
 -- `after_section` meets its contract. Assumes nothing.
 use Prim.Native.Nat.{_*_, _≤_}
 use native.Mathlib.Omega.{arith}
-use Rattle.image.proofs.SectionLaws.{content-fits, after-is}
+use Rattle.image.proofs.SectionLaws.{content-fits, after-missing, after-is}
 use borrow.Author.Needs.{needs}
 use Rattle.image.proofs.sections.after_section.Statement.{statement}
 use Rattle.image.proofs.sections.after_section.Tie as tie
 
 most : (c : tie.After-count-of) → c .count-of .result * c .before .shape-of .result .item ≤ 4294967296 * 510
-most c = content-fits _ _ _ 4294967296 _ (c .before .before .before .pre) (c .before .shape-of .ensures) (omega arith)
+most c = content-fits _ _ _ 4294967296 _ (c .before .before .before .before .before .pre) (c .before .shape-of .ensures) (omega arith)
+
+is-missing-requires : tie.Need-is-missing-requires
+is-missing-requires c κs = search needs
+
+returns : tie.Need-returns
+returns c = search (needs, after-missing)
 
 shape-of-requires : tie.Need-shape-of-requires
 shape-of-requires c κs = search needs
@@ -24,10 +30,10 @@ add-after c = omega (arith, most (c .before))
 after-requires : tie.Need-after-requires
 after-requires c κs = search needs
 
-returns : tie.Need-returns
-returns c = search (needs, after-is)
+returns-2 : tie.Need-returns-2
+returns-2 c = search (needs, after-is)
 
 pub after-section-spec : {M : Type 1} → statement M
 after-section-spec =
     tie.close
-    (tie.spec shape-of-requires count-of-requires mul-after add-after after-requires returns)
+    (tie.spec is-missing-requires returns shape-of-requires count-of-requires mul-after add-after after-requires returns-2)

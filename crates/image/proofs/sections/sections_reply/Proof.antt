@@ -10,10 +10,10 @@ use Rattle.image.proofs.sections.sections_reply.Statement.{statement}
 use Rattle.image.proofs.sections.sections_reply.Tie as tie
 
 abbrev Inv-loop : tie.InvT-loop
-Inv-loop image vl rest₀ i₀ rest i = (i ≤ 5) × (sectionsReply (drop i (sections vl)) rest ≡ sectionsReply (sections vl) image)
+Inv-loop image vl rest₀ i₀ rest i = (i ≤ 6) × (sectionsReply (drop i (sections vl)) rest ≡ sectionsReply (sections vl) image)
 
 abbrev μ-loop : tie.MeasureT-loop
-μ-loop image vl rest₀ i₀ rest i = 5 - i
+μ-loop image vl rest₀ i₀ rest i = 6 - i
 
 vector-length-requires : tie.Need-vector-length-requires Inv-loop μ-loop
 vector-length-requires c κs = search needs

@@ -1,5 +1,5 @@
 -- `shape_of` meets its contract. Assumes nothing.
-use Rattle.image.proofs.SectionLaws.{settings-shape, x-shape, p-shape, flags-shape, words-shape, past-shape}
+use Rattle.image.proofs.SectionLaws.{settings-shape, x-shape, p-shape, ffr-shape, flags-shape, words-shape, past-shape}
 use borrow.Author.Needs.{needs}
 use Rattle.image.proofs.sections.shape_of.Statement.{statement}
 use Rattle.image.proofs.sections.shape_of.Tie as tie
@@ -22,20 +22,23 @@ fixed-requires-3 c κs = search needs
 returns-3 : tie.Need-returns-3
 returns-3 c = search (needs, p-shape)
 
+returns-4 : tie.Need-returns-4
+returns-4 c = search (needs, ffr-shape)
+
 fixed-requires-4 : tie.Need-fixed-requires-4
 fixed-requires-4 c κs = search needs
 
-returns-4 : tie.Need-returns-4
-returns-4 c = search (needs, flags-shape)
-
 returns-5 : tie.Need-returns-5
-returns-5 c = search (needs, words-shape)
+returns-5 c = search (needs, flags-shape)
+
+returns-6 : tie.Need-returns-6
+returns-6 c = search (needs, words-shape)
 
 fixed-requires-5 : tie.Need-fixed-requires-5
 fixed-requires-5 c κs = search needs
 
-returns-6 : tie.Need-returns-6
-returns-6 c = search (needs, past-shape)
+returns-7 : tie.Need-returns-7
+returns-7 c = search (needs, past-shape)
 
 pub shape-of-spec : {M : Type 1} → statement M
 shape-of-spec =
@@ -47,8 +50,9 @@ shape-of-spec =
     returns-2
     fixed-requires-3
     returns-3
-    fixed-requires-4
     returns-4
+    fixed-requires-4
     returns-5
+    returns-6
     fixed-requires-5
-    returns-6)
+    returns-7)

@@ -8,7 +8,7 @@ use Rattle.image.proofs.writer.image_length.Statement.{statement}
 use Rattle.image.proofs.writer.image_length.Tie as tie
 
 abbrev Inv-loop : tie.InvT-loop
-Inv-loop vl words length₀ i₀ length i = (i ≤ 5) × ((length + i * 996 ≤ 21364) × (length ≡ lengthLeft vl words i))
+Inv-loop vl words length₀ i₀ length i = (i ≤ 6) × ((length + i * 996 ≤ 22360) × (length ≡ lengthLeft vl words i))
 
 abbrev μ-loop : tie.MeasureT-loop
 μ-loop vl words length₀ i₀ length i = i

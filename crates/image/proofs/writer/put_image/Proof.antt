@@ -16,8 +16,11 @@ flags c = c .before .before .before .before
 abbrev bits : tie.After-put-words → tie.After-bit5
 bits c = flags c .before .before .before
 
-abbrev predicates : tie.After-bit5 → tie.After-put-predicates
-predicates c = c .before .before .before .before .before .before .before
+abbrev last : tie.After-bit5 → tie.After-put-predicates2
+last c = c .before .before .before .before .before .before .before
+
+abbrev predicates : tie.After-put-predicates2 → tie.After-put-predicates
+predicates c = c .before .before .before .before
 
 abbrev xs : tie.After-put-predicates → tie.After-put-numbers2
 xs c = c .before .before .before .before .before
@@ -32,11 +35,11 @@ ok : (c : tie.Start) → Sized (c .args .state)
 ok c = record { xs = search needs; ps = search (needs, length-mapped) }
 
 -- the image has room for all sections
-room : (c : tie.Start) → (4 + 3 * 1) + ((4 + 31 * 8) + ((4 + 16 * (c .args .state .vl / 64)) + ((4 + 4 * 1) + (4 + length (c .args .words .now) * 4)))) ≤ length (c .args .image .now)
+room : (c : tie.Start) → (4 + 3 * 1) + ((4 + 31 * 8) + ((4 + 16 * (c .args .state .vl / 64)) + ((4 + 1 * (c .args .state .vl / 64)) + ((4 + 4 * 1) + (4 + length (c .args .words .now) * 4))))) ≤ length (c .args .image .now)
 room c = let e = image-bytes (c .args .state) (ok c) (c .args .words .now) in omega (arith, c .pre .1 .1)
 
-cast-t15 : tie.Need-cast-t15
-cast-t15 c = search needs
+cast-t17 : tie.Need-cast-t17
+cast-t17 c = search needs
 
 bit-requires : tie.Need-bit-requires
 bit-requires c κs = search needs
@@ -64,7 +67,16 @@ put-predicates-requires c κs =
     let r = room (start s) in
     let n = ok (start s) .xs in
     let v = legal-vl _ (start s .pre .0) in
-    (omega arith, omega (arith, x .put-numbers2 .ensures .0, s .put-numbers .ensures .0))
+    (omega arith, (lit≤ tt, omega (arith, x .put-numbers2 .ensures .0, s .put-numbers .ensures .0)))
+
+put-predicates-requires-2 : tie.Need-put-predicates-requires-2
+put-predicates-requires-2 c κs =
+    let p = c .before .before .before in
+    let s = settings (xs p) in
+    let r = room (start s) in
+    let n = ok (start s) .xs in
+    let v = legal-vl _ (start s .pre .0) in
+    (omega arith, (lit≤ tt, omega (arith, p .put-predicates .ensures .0, xs p .put-numbers2 .ensures .0, s .put-numbers .ensures .0)))
 
 bit-requires-2 : tie.Need-bit-requires-2
 bit-requires-2 c κs = search needs
@@ -83,47 +95,57 @@ slice-aggregate-put-numbers-3 c = search needs
 
 put-numbers-requires-3 : tie.Need-put-numbers-requires-3
 put-numbers-requires-3 c κs =
-    let p = predicates (c .before .before) in
+    let e = last (c .before .before) in
+    let p = predicates e in
     let s = settings (xs p) in
     let r = room (start s) in
     let n = ok (start s) .xs in
-    (lit≤ tt, omega (arith, p .put-predicates .ensures .0, xs p .put-numbers2 .ensures .0, s .put-numbers .ensures .0))
+    (lit≤ tt, omega (arith, e .put-predicates2 .ensures .0, p .put-predicates .ensures .0, xs p .put-numbers2 .ensures .0, s .put-numbers .ensures .0))
 
 put-words-requires : tie.Need-put-words-requires
 put-words-requires c κs =
     let f = c .before .before .before in
-    let p = predicates (f .before .before .before) in
+    let e = last (f .before .before .before) in
+    let p = predicates e in
     let s = settings (xs p) in
     let r = room (start s) in
     let n = ok (start s) .xs in
-    (start s .pre .1 .0, omega (arith, f .put-numbers3 .ensures .0, p .put-predicates .ensures .0, xs p .put-numbers2 .ensures .0, s .put-numbers .ensures .0))
+    (start s .pre .1 .0, omega (arith, f .put-numbers3 .ensures .0, e .put-predicates2 .ensures .0, p .put-predicates .ensures .0, xs p .put-numbers2 .ensures .0, s .put-numbers .ensures .0))
 
 same-length : tie.Need-same-length
-same-length c = search needs
+same-length c =
+    let w = c .before .before in
+    let f = flags w in
+    let e = last (bits w) in
+    let p = predicates e in
+    let x = xs p in
+    omega (arith, w .put-words .kept .0, f .put-numbers3 .kept .0, e .put-predicates2 .kept .0, p .put-predicates .kept .0, x .put-numbers2 .kept .0, settings x .put-numbers .kept .0)
 
 returns : tie.Need-returns
 returns c =
     let w = c .before .before in
     let f = flags w in
     let b = bits w in
-    let p = predicates b in
+    let e = last b in
+    let p = predicates e in
     let s = settings (xs p) in
-    sections-put (start s .args .state) (ok (start s)) (start s .args .words .now) _ _ _ _ _ _ _ _ _ _ _ _ (three-items (start s .args .state) _ (s .before .before .before .bit .ensures))
+    sections-put (start s .args .state) (ok (start s)) (start s .args .words .now) _ _ _ _ _ _ _ _ _ _ _ _ _ _ (three-items (start s .args .state) _ (s .before .before .before .bit .ensures))
     (four-items (start s .args .state .flags) _ _ _ _ (b .before .before .before .bit2 .ensures) (b .before .before .bit3 .ensures) (b .before .bit4 .ensures) (b .bit5 .ensures)) (s .put-numbers .ensures .1) (s .put-numbers .ensures .0)
-    (xs p .put-numbers2 .ensures .1) (xs p .put-numbers2 .ensures .0) (p .put-predicates .ensures .1) (p .put-predicates .ensures .0) (f .put-numbers3 .ensures .1) (f .put-numbers3 .ensures .0)
+    (xs p .put-numbers2 .ensures .1) (xs p .put-numbers2 .ensures .0) (p .put-predicates .ensures .1) (p .put-predicates .ensures .0) (e .put-predicates2 .ensures .1) (e .put-predicates2 .ensures .0) (f .put-numbers3 .ensures .1) (f .put-numbers3 .ensures .0)
     (w .put-words .ensures)
 
 pub put-image-spec : {M : Type 1} → statement M
 put-image-spec =
     tie.close
     (tie.spec
-    cast-t15
+    cast-t17
     bit-requires
     slice-aggregate-put-numbers
     put-numbers-requires
     slice-aggregate-put-numbers-2
     put-numbers-requires-2
     put-predicates-requires
+    put-predicates-requires-2
     bit-requires-2
     bit-requires-3
     bit-requires-4

@@ -1,35 +1,44 @@
 -- `put_predicates` meets its contract: what is left to write is stored over what was. Assumes nothing.
+use mathlib.Core.List.{List}
 use mathlib.Core.Path.{_≡_, refl, sym, _∙_}
 use Prim.Native.Nat.{_+_, _*_, _-_, _≤_}
 use native.Mathlib.Omega.{arith}
-use lib.ListN.{length, drop}
-use lib.Seq.{sets}
+use lib.ListN.{length, take, drop, length-drop}
+use lib.Seq.{sets, length-take-le}
 use Rattle.octets.specs.Bytes.{joined}
-use Rattle.octets.proofs.Bytes.{within, put-start, put-turn, put-end}
+use Rattle.octets.proofs.Bytes.{within, put-start, put-end}
+use Rattle.predicates.specs.declared.Predicate.{Predicate}
 use Rattle.registers.proofs.Registers.{length-mapped}
 use Rattle.image.specs.Image.{predicateBytes}
 use Rattle.image.proofs.PredicateBytes.{length-bytes}
-use Rattle.image.proofs.Writings.{section-start}
+use Rattle.image.proofs.Writings.{section-start, chosen-turn}
 use borrow.Author.Needs.{needs}
 use Rattle.image.proofs.writer.put_predicates.Statement.{statement}
 use Rattle.image.proofs.writer.put_predicates.Tie as tie
 
 abbrev Inv-loop : tie.InvT-loop
-Inv-loop image₀ at size p i₀ image i =
-    (i ≤ 16) × ((length image ≡ length image₀) × (sets image (at + 4 + i * size) (joined (predicateBytes size) (drop i p)) ≡ sets image₀ (at + 4) (joined (predicateBytes size) p)))
+Inv-loop image₀ at size first n p i₀ image i =
+    (i ≤ n) × ((length image ≡ length image₀) × (sets image (at + 4 + i * size) (joined (predicateBytes size) (drop i (take n (drop first p)))) ≡ sets image₀ (at + 4) (joined (predicateBytes size) (take n (drop first p)))))
 
 abbrev μ-loop : tie.MeasureT-loop
-μ-loop image₀ at size p i₀ image i = 16 - i
+μ-loop image₀ at size first n p i₀ image i = n - i
 
 -- where the loop begins to the function's entry
 abbrev start : tie.At-loop Inv-loop μ-loop → tie.Start Inv-loop μ-loop
 start c = c .before .before .before .before .before .before
 
-sixteen : (c : tie.Start Inv-loop μ-loop) → length (c .args .t4) ≡ 16
-sixteen c = search (needs, length-mapped)
+-- the predicates that are written
+abbrev chosen : tie.Start Inv-loop μ-loop → List Predicate
+chosen c = take (c .args .n) (drop (c .args .first) (c .args .t4))
 
-inside : (c : tie.In-loop Inv-loop μ-loop) → c .before .loop .i * start (c .before) .args .size + start (c .before) .args .size ≤ 16 * start (c .before) .args .size
-inside c = within (c .before .loop .i) 16 (start (c .before) .args .size) (omega arith)
+all : (c : tie.Start Inv-loop μ-loop) → length (c .args .t4) ≡ 17
+all c = search (needs, length-mapped)
+
+many : (c : tie.Start Inv-loop μ-loop) → length (chosen c) ≡ c .args .n
+many c = let l = all c in length-take-le _ _ (omega (arith, length-drop (c .args .first) (c .args .t4)))
+
+inside : (c : tie.In-loop Inv-loop μ-loop) → c .before .loop .i * start (c .before) .args .size + start (c .before) .args .size ≤ start (c .before) .args .n * start (c .before) .args .size
+inside c = within (c .before .loop .i) (start (c .before) .args .n) (start (c .before) .args .size) (omega arith)
 
 put-number-requires : tie.Need-put-number-requires Inv-loop μ-loop
 put-number-requires c κs = search needs
@@ -45,6 +54,9 @@ mul-put-predicate c = omega (arith, inside (c .before))
 
 add-put-predicate-2 : tie.Need-add-put-predicate-2 Inv-loop μ-loop
 add-put-predicate-2 c = omega (arith, inside (c .before))
+
+add-put-predicate-3 : tie.Need-add-put-predicate-3 Inv-loop μ-loop
+add-put-predicate-3 c = omega arith
 
 mul-put-predicate-2 : tie.Need-mul-put-predicate-2 Inv-loop μ-loop
 mul-put-predicate-2 c = search needs
@@ -65,8 +77,8 @@ loop-again : tie.Need-loop-again Inv-loop μ-loop
 loop-again c =
     let l = c .before .before .before .before .before .before in
     let a = start l .args in
-    let n = sixteen (start l) in
-    (omega arith, (omega arith, put-turn (predicateBytes (a .size)) (a .size) (length-bytes (a .size)) _ _ (a .at + 4) (l .loop .i) (a .t4) _ (omega arith) (c .before .before .put-predicate .ensures) ∙ l .loop .inv .1 .1))
+    let n = many (start l) in
+    (omega arith, (omega arith, chosen-turn (a .size) _ _ (a .at + 4) (l .loop .i) (a .t4) (a .first) (a .n) _ (omega arith) (omega arith) (c .before .before .put-predicate .ensures) ∙ l .loop .inv .1 .1))
 
 add-result : tie.Need-add-result Inv-loop μ-loop
 add-result c = omega arith
@@ -84,10 +96,10 @@ returns : tie.Need-returns Inv-loop μ-loop
 returns c =
     let l = c .before in
     let a = start l .args in
-    let n = sixteen (start l) in (
+    let n = many (start l) in (
       omega arith,
-      sym (put-end (predicateBytes (a .size)) (a .size) (length-bytes (a .size)) _ (a .at + 4) (l .loop .i) (a .t4) (omega arith)) ∙ l .loop .inv .1 .1
-          ∙ section-start (predicateBytes (a .size)) _ _ _ _ (a .t4) (l .before .before .before .put-number .ensures) (sym n),
+      sym (put-end (predicateBytes (a .size)) (a .size) (length-bytes (a .size)) _ (a .at + 4) (l .loop .i) (chosen (start l)) (omega arith)) ∙ l .loop .inv .1 .1
+          ∙ section-start (predicateBytes (a .size)) _ _ _ _ (chosen (start l)) (l .before .before .before .put-number .ensures) (sym n),
     )
 
 pub put-predicates-spec : {M : Type 1} → statement M
@@ -101,6 +113,7 @@ put-predicates-spec =
     add-put-predicate
     mul-put-predicate
     add-put-predicate-2
+    add-put-predicate-3
     mul-put-predicate-2
     array-copy-out-put-predicate
     put-predicate-requires

@@ -1,6 +1,6 @@
 -- `registers_of` meets its contract. Assumes nothing.
-use borrow.Author.Needs.{needs}
 use Rattle.instructions.proofs.Effects.{names, names-targets}
+use borrow.Author.Needs.{needs}
 use Rattle.instructions.proofs.operands.registers_of.Statement.{statement}
 use Rattle.instructions.proofs.operands.registers_of.Tie as tie
 
@@ -70,6 +70,36 @@ enum-known-i-10 c = search needs
 masking-requires-5 : tie.Need-masking-requires-5
 masking-requires-5 c κs = search needs
 
+enum-told : tie.Need-enum-told
+enum-told c = search needs
+
+masking-requires-6 : tie.Need-masking-requires-6
+masking-requires-6 c κs = search needs
+
+enum-known-i-11 : tie.Need-enum-known-i-11
+enum-known-i-11 c = search needs
+
+masking-requires-7 : tie.Need-masking-requires-7
+masking-requires-7 c κs = search needs
+
+enum-known-i-12 : tie.Need-enum-known-i-12
+enum-known-i-12 c = search needs
+
+masking-requires-8 : tie.Need-masking-requires-8
+masking-requires-8 c κs = search needs
+
+enum-known-i-13 : tie.Need-enum-known-i-13
+enum-known-i-13 c = search needs
+
+masking-requires-9 : tie.Need-masking-requires-9
+masking-requires-9 c κs = search needs
+
+enum-known-i-14 : tie.Need-enum-known-i-14
+enum-known-i-14 c = search needs
+
+masking-requires-10 : tie.Need-masking-requires-10
+masking-requires-10 c κs = search needs
+
 returns : tie.Need-returns
 returns c = search (names-targets, needs) depth 9
 
@@ -100,6 +130,21 @@ returns-9 c = search (names, needs) depth 9
 returns-10 : tie.Need-returns-10
 returns-10 c = search (names, needs) depth 9
 
+returns-11 : tie.Need-returns-11
+returns-11 c = search (names, needs) depth 9
+
+returns-12 : tie.Need-returns-12
+returns-12 c = search (names, needs) depth 9
+
+returns-13 : tie.Need-returns-13
+returns-13 c = search (names, needs) depth 9
+
+returns-14 : tie.Need-returns-14
+returns-14 c = search (names, needs) depth 9
+
+returns-15 : tie.Need-returns-15
+returns-15 c = search (names, needs) depth 9
+
 pub registers-of-spec : {M : Type 1} → statement M
 registers-of-spec =
     tie.close
@@ -126,6 +171,16 @@ registers-of-spec =
     masking-requires-4
     enum-known-i-10
     masking-requires-5
+    enum-told
+    masking-requires-6
+    enum-known-i-11
+    masking-requires-7
+    enum-known-i-12
+    masking-requires-8
+    enum-known-i-13
+    masking-requires-9
+    enum-known-i-14
+    masking-requires-10
     returns
     returns-2
     returns-3
@@ -135,4 +190,9 @@ registers-of-spec =
     returns-7
     returns-8
     returns-9
-    returns-10)
+    returns-10
+    returns-11
+    returns-12
+    returns-13
+    returns-14
+    returns-15)

@@ -15,14 +15,14 @@ element-copy-out-result : tie.Need-element-copy-out-result
 element-copy-out-result c = search needs
 
 returns : tie.Need-returns
-returns c = let l : length (c .before .before .args .t1 .p) ≡ 16 = search (needs, length-mapped) in default-any (c .before .before .args .t1 .p) (c .before .before .args .r) _ _ (omega arith)
+returns c = let l : length (c .before .before .args .t1 .p) ≡ 17 = search (needs, length-mapped) in default-any (c .before .before .args .t1 .p) (c .before .before .args .r) _ _ (omega arith)
 
 none-requires : tie.Need-none-requires
 none-requires c κs = search needs
 
 returns-2 : tie.Need-returns-2
 returns-2 c =
-    let l : length (c .before .before .args .t1 .p) ≡ 16 = search (needs, length-mapped) in
+    let l : length (c .before .before .args .t1 .p) ≡ 17 = search (needs, length-mapped) in
     c .none .ensures ∙ sym (List·getD-eq-default (c .before .before .args .t1 .p) allFalse {n = c .before .before .args .r} (omega arith))
 
 pub read-p-spec : {M : Type 1} → statement M

@@ -19,7 +19,7 @@ unfolding withP
 returns c = refl
 
 returns-2 : tie.Need-returns-2
-returns-2 c = let l : length (c .before .args .t1 .p) ≡ 16 = search (needs, length-mapped) in withP-out _ _ _ (omega arith)
+returns-2 c = let l : length (c .before .args .t1 .p) ≡ 17 = search (needs, length-mapped) in withP-out _ _ _ (omega arith)
 
 pub with-p-spec : {M : Type 1} → statement M
 with-p-spec = tie.close (tie.spec mul-q element-set-from-q returns returns-2)

@@ -10,10 +10,10 @@ use Rattle.registers.proofs.parts.union.Statement.{statement}
 use Rattle.registers.proofs.parts.union.Tie as tie
 
 abbrev Inv-loop : tie.InvT-loop
-Inv-loop p q₀ i₀ q i = (i ≤ 16) × (q ≡ unionOf (predicatesOf p) i)
+Inv-loop p q₀ i₀ q i = (i ≤ 17) × (q ≡ unionOf (predicatesOf p) i)
 
 abbrev μ-loop : tie.MeasureT-loop
-μ-loop p q₀ i₀ q i = 16 - i
+μ-loop p q₀ i₀ q i = 17 - i
 
 none-requires : tie.Need-none-requires Inv-loop μ-loop
 none-requires c κs = search needs
@@ -37,7 +37,7 @@ loop-again : tie.Need-loop-again Inv-loop μ-loop
 loop-again c = (omega arith, union-more (predicatesOf (now (c .before .before .before .before .before .args .p))) (c .before .before .before .loop .i) _ _ _ (c .before .p-at .ensures) (c .before .before .before .loop .inv .1) (c .or .ensures))
 
 returns : tie.Need-returns Inv-loop μ-loop
-returns c = let e : c .before .loop .i ≡ 16 = omega arith in c .before .loop .inv .1 ∙ ap (unionOf (predicatesOf (now (c .before .before .before .args .p)))) e
+returns c = let e : c .before .loop .i ≡ 17 = omega arith in c .before .loop .inv .1 ∙ ap (unionOf (predicatesOf (now (c .before .before .before .args .p)))) e
 
 pub union-spec : {M : Type 1} → statement M
 union-spec =

@@ -1,5 +1,5 @@
 -- `words_of` meets its contract. Assumes nothing.
-use mathlib.Core.Path.{_≡_, refl, sym, _∙_}
+use mathlib.Core.Path.{_≡_, refl}
 use Prim.Native.Nat.{_≤_, _-_}
 use native.Mathlib.Omega.{arith}
 use lib.ListN.{length, take, length-set}
@@ -12,10 +12,10 @@ use Rattle.registers.proofs.parts.words_of.Statement.{statement}
 use Rattle.registers.proofs.parts.words_of.Tie as tie
 
 abbrev Inv-loop : tie.InvT-loop
-Inv-loop p r₀ i₀ r i = (i ≤ 16) × (length r ≡ 16) × (length p ≡ 16) × (take i (predicatesOf r) ≡ take i p)
+Inv-loop p r₀ i₀ r i = (i ≤ 17) × (length r ≡ 17) × (length p ≡ 17) × (take i (predicatesOf r) ≡ take i p)
 
 abbrev μ-loop : tie.MeasureT-loop
-μ-loop p r₀ i₀ r i = 16 - i
+μ-loop p r₀ i₀ r i = 17 - i
 
 loop-holds : tie.Need-loop-holds Inv-loop μ-loop
 loop-holds c = (omega arith, refl, search (needs, length-mapped), refl)
