@@ -1,16 +1,16 @@
 -- `accepts` meets its contract: every instruction but WRFFR takes any value. Assumes nothing.
 use Prim.Native.Nat.{ℕ}
-use mathlib.Core.Bool.{Bool, true}
+use mathlib.Core.Bool.{Bool, true, false}
 use mathlib.Core.List.{List, [], _∷_}
-use mathlib.Core.Path.{_≡_, refl, sym, ap, _∙_}
+use mathlib.Core.Path.{_≡_, refl, sym, ap, _∙_, subst}
 use types.Run.{OneOf, miss}
 use denote.Enum.Declared.{tagOf}
 use borrow.Author.Needs.{needs}
 use Rattle.words.proofs.Instruction.{the-type}
 use Rattle.words.specs.declared.Instruction.{Instruction}
-use Rattle.words.specs.declared.Instruction.the-variants.{While, Saturating, IncDec, Cntp, CntpCounter, Pnext, Pfirst, Ptest, Pfalse, Logic, Setffr, Wrffr, Rdffr, RdffrPg, RdffrsPg}
 use Rattle.instructions.specs.declared.operands.Values.{Values}
 use Rattle.instructions.specs.Ffr.{accepts}
+use Rattle.instructions.proofs.FfrLaws.{refuses}
 use Rattle.instructions.proofs.ffr.accepts.Statement.{statement}
 use Rattle.instructions.proofs.ffr.accepts.Tie as tie
 
@@ -19,21 +19,11 @@ abbrev others : List ℕ
 others = 0 ∷ 1 ∷ 2 ∷ 3 ∷ 4 ∷ 5 ∷ 6 ∷ 7 ∷ 8 ∷ 9 ∷ 10 ∷ 12 ∷ 13 ∷ 14 ∷ []
 
 any-value : (i : Instruction) (v : Values) → OneOf others (tagOf the-type i) → true ≡ accepts i v
-any-value (While c u t size rn rm) v h = refl
-any-value (Saturating d u sf size pm rdn) v h = refl
-any-value (IncDec d size pm rdn) v h = refl
-any-value (Cntp size pg pn rd) v h = refl
-any-value (CntpCounter four size pnn rd) v h = refl
-any-value (Pnext size pv pdn) v h = refl
-any-value (Pfirst pg pdn) v h = refl
-any-value (Ptest pg pn) v h = refl
-any-value (Pfalse pd) v h = refl
-any-value (Logic o s pm pg pn pd) v h = refl
-any-value Setffr v h = refl
-any-value (Wrffr pn) v h = absurd (miss others 11 tt h)
-any-value (Rdffr pd) v h = refl
-any-value (RdffrPg pg pd) v h = refl
-any-value (RdffrsPg pg pd) v h = refl
+any-value i v h = go (accepts i v) refl
+  where
+    go : (t : Bool) → accepts i v ≡ t → true ≡ accepts i v
+    go true e = sym e
+    go false e = let (pn, q, m) = refuses i v e in absurd (miss others 11 tt (subst (λ (k : Instruction). OneOf others (tagOf the-type k)) q h))
 
 by-form : (i j : Instruction) (v : Values) (t : Bool) → i ≡ j → t ≡ accepts j v → t ≡ accepts i v
 by-form i j v t h e = e ∙ sym (ap (λ (k : Instruction). accepts k v) h)
