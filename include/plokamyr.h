@@ -3,7 +3,8 @@
  *
  * Every call is answered: nothing is left to the caller to check but what C cannot say. What the caller owes:
  *   - a pointer with a count is valid for that many elements (null will do where the count is 0), and aligned as its type;
- *   - `state`, `flags`, `x`, `p`, `row` and `word` are valid pointers, never null; behind `p` stand seventeen predicates;
+ *   - `state`, `flags`, `x`, `p`, `counts`, `row` and `word` are valid pointers, never null; behind `p` stand seventeen predicates, behind `counts`
+ *     the counts of sixteen;
  *   - what is lent to one call does not overlap;
  *   - a bool is 0 or 1;
  *   - there are 32 KB of stack.
@@ -28,7 +29,7 @@ enum plokamyr_reply {
     PLOKAMYR_FOREIGN_WORD = 1,        /* bits 31:24 of the word are not 00100101 */
     PLOKAMYR_LEVEL_TOO_LOW = 2,       /* the state's level is below the form's */
     PLOKAMYR_ACCESS_OFF = 3,
-    PLOKAMYR_ILLEGAL_STATE = 4,       /* vl is none of the five, level above 3, or a bit of a predicate or of FFR at or above vl / 8 */
+    PLOKAMYR_ILLEGAL_STATE = 4,       /* vl is none of the five, level above 3, a bit of a predicate or of FFR at or above vl / 8, or a wrong count */
     PLOKAMYR_IMAGE_CUT = 5,           /* the image ends before a section does */
     PLOKAMYR_NOT_ALLOWED = 6,         /* a count or a byte of an image that is not allowed */
     PLOKAMYR_TRAILING_BYTES = 7,      /* bytes after the last section */
@@ -53,6 +54,14 @@ struct plokamyr_flags {
     bool v;
 };
 
+/* How many elements of a predicate are true, at each size. Element e of n bytes is true if bit e * n is 1; a vector has vl / 8 / n elements. */
+struct plokamyr_counts {
+    uint16_t b;
+    uint16_t h;
+    uint16_t s;
+    uint16_t d;
+};
+
 struct plokamyr_state {
     uint64_t vl;    /* the vector length in bits: 128, 256, 512, 1024 or 2048 */
     uint8_t level;  /* 0 none, 1 SVE, 2 SVE2, 3 SVE2p1 */
@@ -60,15 +69,22 @@ struct plokamyr_state {
     struct plokamyr_flags flags;
     uint64_t x[31];
     struct plokamyr_predicate p[16];
-    struct plokamyr_predicate ffr; /* the first-fault register, right after p: see plokamyr_predicates */
+    struct plokamyr_predicate ffr;     /* the first-fault register, right after p: see plokamyr_predicates */
+    struct plokamyr_counts counts[16]; /* of p; FFR has none. A state with a wrong one is refused with 4: see plokamyr_counted */
 };
+
+/* ---- states made by hand ---- */
+
+/* The state with its counts worked out, and all else as it is. It is for a state that is made by hand: what the library leaves of a legal state has
+ * right counts. Any state is taken, legal or not; bits that a predicate has no room for count as false. */
+struct plokamyr_state plokamyr_counted(struct plokamyr_state state);
 
 /* ---- steps ---- */
 
-/* Executes one instruction word on a state whose parts stand anywhere: p holds P0 to P15 and then FFR. Nothing is copied.
+/* Executes one instruction word on a state whose parts stand anywhere: p holds P0 to P15 and then FFR, counts those of P0 to P15. Nothing is copied.
  * Refusals, the first that applies: 4, 1 or 13, 2, 3, 14 (WRFFR alone). */
 enum plokamyr_reply plokamyr_step_parts(uint64_t vl, uint8_t level, bool access, struct plokamyr_flags *flags, uint64_t x[31],
-                                        struct plokamyr_predicate p[17], uint32_t word);
+                                        struct plokamyr_predicate p[17], struct plokamyr_counts counts[16], uint32_t word);
 
 /* The seventeen predicates of a state: its p and then its ffr. The pointer comes from that to the state, since one to p ends with p. */
 static inline struct plokamyr_predicate *plokamyr_predicates(struct plokamyr_state *state) {
@@ -77,7 +93,7 @@ static inline struct plokamyr_predicate *plokamyr_predicates(struct plokamyr_sta
 
 /* The same as plokamyr_step_parts on a state where it stands. */
 static inline enum plokamyr_reply plokamyr_step(struct plokamyr_state *state, uint32_t word) {
-    return plokamyr_step_parts(state->vl, state->level, state->access, &state->flags, state->x, plokamyr_predicates(state), word);
+    return plokamyr_step_parts(state->vl, state->level, state->access, &state->flags, state->x, plokamyr_predicates(state), state->counts, word);
 }
 
 /* The same by way of a step that hands the state in and back: slower, since it copies the state. */
@@ -93,11 +109,11 @@ struct plokamyr_ran {
 /* Executes words one after the other, until one is refused (1 or 13, 2, 3, 14), on a state whose parts stand anywhere, as for a step: they hold what
  * the words done left. Refusal: 4, even if there are no words. The faster way for more than one word. */
 struct plokamyr_ran plokamyr_run_parts(uint64_t vl, uint8_t level, bool access, struct plokamyr_flags *flags, uint64_t x[31],
-                                       struct plokamyr_predicate p[17], const uint32_t *words, size_t count);
+                                       struct plokamyr_predicate p[17], struct plokamyr_counts counts[16], const uint32_t *words, size_t count);
 
 /* The same on a state where it stands. */
 static inline struct plokamyr_ran plokamyr_run(struct plokamyr_state *state, const uint32_t *words, size_t count) {
-    return plokamyr_run_parts(state->vl, state->level, state->access, &state->flags, state->x, plokamyr_predicates(state), words, count);
+    return plokamyr_run_parts(state->vl, state->level, state->access, &state->flags, state->x, plokamyr_predicates(state), state->counts, words, count);
 }
 
 /* ---- the walk ---- */
@@ -132,7 +148,8 @@ struct plokamyr_reading {
     struct plokamyr_state state;
 };
 
-/* Reads an image, and puts its words at the front of words; other places stay. An image of the older kind, without FFR, gives one that is all false.
+/* Reads an image, and puts its words at the front of words; other places stay. An image has no counts: those of the state are worked out. One of the
+ * older kind, without FFR, gives one that is all false.
  * Refusals: 5 and 6 by the first section at fault, then 7, then 8. */
 struct plokamyr_reading plokamyr_read(const uint8_t *image, size_t length, uint32_t *words, size_t places);
 
@@ -142,7 +159,7 @@ struct plokamyr_written {
     size_t length;
 };
 
-/* Writes the image of a state, with its FFR, and of words at the front of image; other bytes stay.
+/* Writes the image of a state, with its FFR and without its counts, and of words at the front of image; other bytes stay.
  * Refusals: 4, then 6 (more than 4,096 words), then 8. */
 struct plokamyr_written plokamyr_write(struct plokamyr_state state, const uint32_t *words, size_t count, uint8_t *image, size_t room);
 
@@ -188,15 +205,19 @@ enum plokamyr_reply plokamyr_decode(uint32_t word, uint8_t row[PLOKAMYR_ROW]);
  * or SEL with S = 1. */
 enum plokamyr_reply plokamyr_encode(const uint8_t row[PLOKAMYR_ROW], uint32_t *word);
 
-/* The library is compiled for these sizes, and for an FFR that is the seventeenth predicate. */
+/* The library is compiled for these sizes, for an FFR that is the seventeenth predicate, and for counts right after it. */
 #if defined(__cplusplus)
-static_assert(sizeof(enum plokamyr_reply) == 4 && sizeof(struct plokamyr_state) == 808, "not the library's layout");
+static_assert(sizeof(enum plokamyr_reply) == 4 && sizeof(struct plokamyr_state) == 936, "not the library's layout");
 static_assert(offsetof(struct plokamyr_state, ffr) == offsetof(struct plokamyr_state, p) + 16 * sizeof(struct plokamyr_predicate),
               "ffr does not lie right after p");
+static_assert(offsetof(struct plokamyr_state, counts) == offsetof(struct plokamyr_state, ffr) + sizeof(struct plokamyr_predicate),
+              "counts do not lie right after ffr");
 #elif defined(__STDC_VERSION__) && __STDC_VERSION__ >= 201112L
-_Static_assert(sizeof(enum plokamyr_reply) == 4 && sizeof(struct plokamyr_state) == 808, "not the library's layout");
+_Static_assert(sizeof(enum plokamyr_reply) == 4 && sizeof(struct plokamyr_state) == 936, "not the library's layout");
 _Static_assert(offsetof(struct plokamyr_state, ffr) == offsetof(struct plokamyr_state, p) + 16 * sizeof(struct plokamyr_predicate),
                "ffr does not lie right after p");
+_Static_assert(offsetof(struct plokamyr_state, counts) == offsetof(struct plokamyr_state, ffr) + sizeof(struct plokamyr_predicate),
+               "counts do not lie right after ffr");
 #endif
 
 #ifdef __cplusplus

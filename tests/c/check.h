@@ -44,6 +44,32 @@ static inline uint64_t live(uint64_t vl, uint64_t word) {
     return bits >= 64 ? UINT64_MAX : (UINT64_C(1) << bits) - 1;
 }
 
+/* The true elements of a predicate, one by one: those that a vector of any length has, as far as there are bits. */
+static inline uint16_t count_of(const struct plokamyr_predicate *p, uint64_t vl, uint64_t bytes) {
+    uint16_t count = 0;
+    for (uint64_t e = 0; e < vl / 8 / bytes && e * bytes < 256; e++) {
+        uint64_t bit = e * bytes;
+        count += p->words[bit / 64] >> (bit % 64) & 1;
+    }
+    return count;
+}
+
+static inline struct plokamyr_counts counts_of(const struct plokamyr_predicate *p, uint64_t vl) {
+    return (struct plokamyr_counts){count_of(p, vl, 1), count_of(p, vl, 2), count_of(p, vl, 4), count_of(p, vl, 8)};
+}
+
+/* The state with right counts, by these tests' own counting. */
+static inline struct plokamyr_state recounted(struct plokamyr_state state) {
+    for (int i = 0; i < 16; i++) state.counts[i] = counts_of(&state.p[i], state.vl);
+    return state;
+}
+
+/* Writes a predicate, with its counts. */
+static inline void put_p(struct plokamyr_state *state, int number, struct plokamyr_predicate p) {
+    state->p[number] = p;
+    state->counts[number] = counts_of(&p, state->vl);
+}
+
 /* A legal state with a different number in each register; what lies between the fields is no zero. */
 static inline struct plokamyr_state sample(uint64_t vl) {
     struct plokamyr_state state;
@@ -57,7 +83,7 @@ static inline struct plokamyr_state sample(uint64_t vl) {
         for (uint64_t k = 0; k < 4; k++) state.p[i].words[k] = mixed(100 + 4 * i + k) & live(vl, k);
     }
     for (uint64_t k = 0; k < 4; k++) state.ffr.words[k] = mixed(200 + k) & live(vl, k);
-    return state;
+    return recounted(state);
 }
 
 /* Field by field, since what lies between them is nobody's. */
@@ -65,7 +91,8 @@ static inline bool same_state(const struct plokamyr_state *a, const struct ploka
     bool settings = a->vl == b->vl && a->level == b->level && a->access == b->access;
     bool flags = a->flags.n == b->flags.n && a->flags.z == b->flags.z && a->flags.c == b->flags.c && a->flags.v == b->flags.v;
     bool registers = memcmp(a->x, b->x, sizeof a->x) == 0 && memcmp(a->p, b->p, sizeof a->p) == 0;
-    return settings && flags && registers && memcmp(&a->ffr, &b->ffr, sizeof a->ffr) == 0;
+    bool counts = memcmp(a->counts, b->counts, sizeof a->counts) == 0;
+    return settings && flags && registers && counts && memcmp(&a->ffr, &b->ffr, sizeof a->ffr) == 0;
 }
 
 /* A variable, declared as `value`, with guards on both sides. */

@@ -1,5 +1,6 @@
 /* Every refusal that each function can give, in its order, and that it leaves all as it was; nulls, empty lists, numbers past their range;
- * counters with bits past their count; PNEXT past words without an active element; FFR written and read; images of the older kind. */
+ * counters with bits past their count; PNEXT past words without an active element; FFR written and read; images of the older kind; the counts that a
+ * state keeps. */
 #include "check.h"
 
 enum {
@@ -29,12 +30,12 @@ static const uint32_t unsupported[UNSUPPORTED] = {0x25000000, 0x25FFFFFF, 0x2518
 
 /* ---- illegal states */
 
-enum { ILLEGAL = 36 };
+enum { ILLEGAL = 44 };
 
 static struct plokamyr_state with_length(uint64_t vl) {
     struct plokamyr_state s = sample(128);
     s.vl = vl;
-    return s;
+    return recounted(s);
 }
 
 static struct plokamyr_state with_level(uint8_t level) {
@@ -57,6 +58,20 @@ static struct plokamyr_state with_ffr_bit(uint64_t vl, uint64_t bit) {
     return s;
 }
 
+/* A count by the number of its size, 0 to 3 for B, H, S, D. */
+static uint16_t *count_at(struct plokamyr_state *s, int p, int size) {
+    struct plokamyr_counts *counts = &s->counts[p];
+    uint16_t *const each[4] = {&counts->b, &counts->h, &counts->s, &counts->d};
+    return each[size];
+}
+
+/* A legal state but for one count, which is one more or one less than it is. */
+static struct plokamyr_state with_count(uint64_t vl, int p, int size, int change) {
+    struct plokamyr_state s = sample(vl);
+    *count_at(&s, p, size) += (uint16_t)change;
+    return s;
+}
+
 static struct plokamyr_state illegal(int number) {
     static const uint64_t bad[14] = {0, 1, 16, 127, 129, 192, 384, 640, 1920, 2049, 4096, 0x100000080, UINT64_C(1) << 63, UINT64_MAX};
     if (number < 14) return with_length(bad[number]);
@@ -64,12 +79,18 @@ static struct plokamyr_state illegal(int number) {
     if (number < 20) return with_level(levels[number - 14]);
     uint64_t vl = lengths[(number - 20) % 4];
     if (number < 28) return number < 24 ? with_bit(vl, number - 20, vl / 8) : with_bit(vl, number - 12, 255);
-    return with_ffr_bit(vl, number < 32 ? vl / 8 : 255);
+    if (number < 36) return with_ffr_bit(vl, number < 32 ? vl / 8 : 255);
+    return with_count(vl, number < 40 ? 0 : 15, number % 4, number % 2 ? 1 : -1);
 }
 
 /* ---- step */
 
-/* A step in place and one over a lent state give the same reply and leave the same state, which is answered. */
+static void check_counts(const struct plokamyr_state *s) {
+    struct plokamyr_state anew = recounted(*s);
+    CHECK(same_state(s, &anew));
+}
+
+/* A step in place and one over a lent state give the same reply and leave the same state, which is answered. One that is done leaves right counts. */
 static struct plokamyr_state both_steps(const struct plokamyr_state *s, uint32_t word, enum plokamyr_reply reply) {
     static GUARDED(struct plokamyr_state value) in_place, lent;
     FILL(in_place);
@@ -80,6 +101,7 @@ static struct plokamyr_state both_steps(const struct plokamyr_state *s, uint32_t
     CHECK(same_state(&in_place.value, &lent.value));
     CHECK_GUARDS(in_place);
     CHECK_GUARDS(lent);
+    if (reply == PLOKAMYR_DONE) check_counts(&in_place.value);
     return in_place.value;
 }
 
@@ -127,6 +149,7 @@ static void steps_agree(void) {
         for (uint64_t at = 0; at < KINDS * 40; at++) {
             s.x[at % 31] = mixed(at) % 300; /* small, so that a WHILE may end within the vector */
             if (at % KINDS != 19) s.p[at % 16].words[0] |= mixed(at + 1) & live(lengths[i], 0); /* PFALSE must not leave all empty */
+            s = recounted(s);
             s = both_steps(&s, fixed[at % KINDS] | ((uint32_t)mixed(at + 2) & drawn[at % KINDS]), PLOKAMYR_DONE);
         }
     }
@@ -137,7 +160,7 @@ static void steps_agree(void) {
 /* What CNTP of bytes over four vectors answers of a counter; it writes nothing else. */
 static uint64_t counted(uint64_t vl, uint64_t counter) {
     struct plokamyr_state s = sample(vl);
-    s.p[8] = (struct plokamyr_predicate){{counter}};
+    put_p(&s, 8, (struct plokamyr_predicate){{counter}});
     struct plokamyr_state after = both_steps(&s, CNTP_COUNTER, PLOKAMYR_DONE);
     s.x[0] = after.x[0];
     CHECK(same_state(&after, &s));
@@ -172,10 +195,10 @@ struct search {
 /* It writes nothing else. */
 static void expect_next(struct search search) {
     struct plokamyr_state s = sample(2048);
-    s.p[2] = search.mask;
-    s.p[3] = search.cursor;
+    put_p(&s, 2, search.mask);
+    put_p(&s, 3, search.cursor);
     struct plokamyr_state after = both_steps(&s, PNEXT + (search.size << 22), PLOKAMYR_DONE);
-    s.p[3] = search.found;
+    put_p(&s, 3, search.found);
     s.flags = (struct plokamyr_flags){.n = search.n, .z = search.z, .c = search.c};
     CHECK(same_state(&after, &s));
 }
@@ -209,7 +232,7 @@ static struct plokamyr_predicate ones(uint64_t first, uint64_t end) {
 /* WRFFR of p3, from an FFR that is no run of ones itself. */
 static void expect_write_ffr(uint64_t vl, struct plokamyr_predicate p, bool run) {
     struct plokamyr_state s = sample(vl);
-    s.p[3] = p;
+    put_p(&s, 3, p);
     if (!run) {
         expect_step(&s, WRFFR | 3 << 5, PLOKAMYR_NOT_MONOTONIC);
         return;
@@ -234,7 +257,7 @@ static void ffr_written(uint64_t vl) {
 /* A word over FFR and, as its mask, p4: what it leaves in p5, and the flags. */
 static void expect_read_ffr(struct plokamyr_state s, uint32_t word, struct plokamyr_predicate result, struct plokamyr_flags flags) {
     struct plokamyr_state after = both_steps(&s, word | 5, PLOKAMYR_DONE);
-    s.p[5] = result;
+    put_p(&s, 5, result);
     s.flags = flags;
     CHECK(same_state(&after, &s));
 }
@@ -246,14 +269,14 @@ static void ffr_read(uint64_t vl) {
     expect_read_ffr(s, RDFFR, s.ffr, s.flags);
     expect_read_ffr(s, RDFFR_PG | 4 << 5, both, s.flags);
     uint64_t end = vl / 8, half = end / 2;
-    s.p[4] = ones(1, end);
+    put_p(&s, 4, ones(1, end));
     s.ffr = ones(0, half);
     expect_read_ffr(s, RDFFRS_PG | 4 << 5, ones(1, half), (struct plokamyr_flags){.n = true, .c = true});
     s.ffr = ones(half, end);
     expect_read_ffr(s, RDFFRS_PG | 4 << 5, ones(half, end), (struct plokamyr_flags){.n = false});
     s.ffr = ones(0, 1);
     expect_read_ffr(s, RDFFRS_PG | 4 << 5, ones(0, 0), (struct plokamyr_flags){.z = true, .c = true});
-    s.p[5] = ones(2, half);
+    put_p(&s, 5, ones(2, half));
     s.ffr = ones(0, end);
     expect_read_ffr(s, RDFFRS_PG | 5 << 5, ones(2, half), (struct plokamyr_flags){.n = true}); /* Pd is Pg */
     struct plokamyr_state after = both_steps(&s, SETFFR, PLOKAMYR_DONE);
@@ -263,8 +286,9 @@ static void ffr_read(uint64_t vl) {
 /* 14 comes after 4, 2 and 3. */
 static void ffr_refusals(void) {
     struct plokamyr_state s = sample(1024);
-    s.p[0] = ones(0, 70);
-    s.p[0].words[1] ^= 1; /* a hole at bit 64: each word is a run of ones but for that */
+    struct plokamyr_predicate p = ones(0, 70);
+    p.words[1] ^= 1; /* a hole at bit 64: each word is a run of ones but for that */
+    put_p(&s, 0, p);
     expect_step(&s, WRFFR, PLOKAMYR_NOT_MONOTONIC);
     s.access = false;
     expect_step(&s, WRFFR, PLOKAMYR_ACCESS_OFF);
@@ -321,6 +345,7 @@ static void run_refusals(void) {
 static void expect_three(const struct plokamyr_state *s, const uint32_t *words, size_t count, enum plokamyr_reply refused) {
     struct plokamyr_state after = *s;
     memset(after.p, 0, 3 * sizeof after.p[0]);
+    memset(after.counts, 0, 3 * sizeof after.counts[0]);
     struct plokamyr_ran ran = run_from(s, words, count);
     CHECK(ran.reply == PLOKAMYR_DONE);
     CHECK(ran.refused == refused);
@@ -342,7 +367,7 @@ static void run_stops(void) {
         words[3] = unsupported[i];
         expect_three(&s, words, 5, PLOKAMYR_UNSUPPORTED_FORM);
     }
-    s.p[9] = ones(1, 3);
+    put_p(&s, 9, ones(1, 3));
     words[3] = WRFFR | 9 << 5;
     expect_three(&s, words, 5, PLOKAMYR_NOT_MONOTONIC);
 }
@@ -468,6 +493,7 @@ static void check_budget(const struct plokamyr_state *s, struct route r, size_t 
     CHECK(walked.count == plain.count);
     CHECK(walked.visited == plain.visited);
     CHECK(same_state(&walked.state, &plain.state));
+    check_counts(&walked.state);
     CHECK(memcmp(list.value, plain_list, sizeof plain_list) == 0);
     CHECK_GUARDS(list);
 }
@@ -651,6 +677,72 @@ static void write_refusals(void) {
         CHECK(written.reply == PLOKAMYR_DONE);
         CHECK(written.length == least);
         CHECK(is_filled(written_image.value + least, sizeof written_image.value - least));
+    }
+}
+
+/* ---- counts */
+
+/* A state that every entry refuses with 4. */
+static void expect_illegal(const struct plokamyr_state *s) {
+    static const uint32_t words[2] = {PFALSE, 0};
+    expect_step(s, PFALSE, PLOKAMYR_ILLEGAL_STATE);
+    expect_step(s, 0, PLOKAMYR_ILLEGAL_STATE);
+    expect_run(s, NULL, 0, PLOKAMYR_ILLEGAL_STATE, PLOKAMYR_DONE);
+    expect_run(s, words, 2, PLOKAMYR_ILLEGAL_STATE, PLOKAMYR_DONE);
+    expect_walk(s, good, PLACES, 100, PLOKAMYR_ILLEGAL_STATE);
+    expect_write(s, 0, PLOKAMYR_IMAGE_MAX, PLOKAMYR_ILLEGAL_STATE);
+}
+
+/* Each count of each register by itself: one more, one less, none, the most, another high byte; and two sizes of it exchanged. */
+static void wrong_counts(uint64_t vl) {
+    struct plokamyr_state right = sample(vl);
+    expect_run(&right, NULL, 0, PLOKAMYR_DONE, PLOKAMYR_DONE);
+    for (int i = 0; i < 16 * 4; i++) {
+        struct plokamyr_state s = right;
+        uint16_t *count = count_at(&s, i / 4, i % 4), *other = count_at(&s, i / 4, (i + 1) % 4), kept = *count, kept_other = *other;
+        const uint16_t wrong[5] = {(uint16_t)(kept + 1), (uint16_t)(kept - 1), 0, UINT16_MAX, kept ^ 0x100};
+        for (int k = 0; k < 5; k++) {
+            *count = wrong[k];
+            if (*count != kept) expect_illegal(&s);
+        }
+        *count = kept_other;
+        *other = kept;
+        if (*count != kept) expect_illegal(&s);
+        s = plokamyr_counted(s);
+        CHECK(same_state(&s, &right));
+    }
+}
+
+static void expect_counted(struct plokamyr_state s) {
+    struct plokamyr_state expected = recounted(s);
+    fill(s.counts, sizeof s.counts);
+    struct plokamyr_state given = s, counted = plokamyr_counted(s);
+    CHECK(same_state(&counted, &expected));
+    CHECK(same_state(&s, &given));
+}
+
+/* Of any length, with bits in all places; and whatever is illegal otherwise. */
+static void counted_states(void) {
+    struct plokamyr_state s = sample(2048);
+    for (int k = 0; k < 4; k++) s.p[15].words[k] = UINT64_MAX;
+    for (s.vl = 0; s.vl <= 2100; s.vl++) expect_counted(s);
+    static const uint64_t far[5] = {4096, 0x100000080, UINT64_C(1) << 63, (UINT64_C(1) << 63) + 2048, UINT64_MAX};
+    for (int i = 0; i < 5; i++) {
+        s.vl = far[i];
+        expect_counted(s);
+    }
+    for (int i = 0; i < ILLEGAL; i++) expect_counted(illegal(i));
+}
+
+/* INCP x0 by each register at each size adds the count, and DECP takes it away. */
+static void counts_added(uint64_t vl) {
+    for (uint32_t i = 0; i < 16 * 4; i++) {
+        struct plokamyr_state s = sample(vl), after;
+        uint64_t x = s.x[0], count = *count_at(&s, (int)i / 4, (int)i % 4);
+        after = both_steps(&s, 0x252C8800 + (i % 4 << 22) + (i / 4 << 5), PLOKAMYR_DONE);
+        CHECK(after.x[0] == x + count);
+        after = both_steps(&s, 0x252D8800 + (i % 4 << 22) + (i / 4 << 5), PLOKAMYR_DONE);
+        CHECK(after.x[0] == x - count);
     }
 }
 
@@ -886,6 +978,11 @@ int main(void) {
         read_ffrs(lengths[i]);
     }
     write_refusals();
+    counted_states();
+    for (int i = 0; i < 5; i++) {
+        wrong_counts(lengths[i]);
+        counts_added(lengths[i]);
+    }
     text_edges();
     last_lines();
     longest_texts();

@@ -5,10 +5,11 @@ static void sizes(void) {
     CHECK(sizeof(enum plokamyr_reply) == 4);
     CHECK(sizeof(struct plokamyr_predicate) == 32);
     CHECK(sizeof(struct plokamyr_flags) == 4);
-    CHECK(sizeof(struct plokamyr_state) == 808);
+    CHECK(sizeof(struct plokamyr_counts) == 8);
+    CHECK(sizeof(struct plokamyr_state) == 936);
     CHECK(sizeof(struct plokamyr_ran) == 16);
-    CHECK(sizeof(struct plokamyr_walked) == 832);
-    CHECK(sizeof(struct plokamyr_reading) == 824);
+    CHECK(sizeof(struct plokamyr_walked) == 960);
+    CHECK(sizeof(struct plokamyr_reading) == 952);
     CHECK(sizeof(struct plokamyr_written) == 16);
 }
 
@@ -18,6 +19,10 @@ static void offsets(void) {
     CHECK(offsetof(struct plokamyr_flags, z) == 1);
     CHECK(offsetof(struct plokamyr_flags, c) == 2);
     CHECK(offsetof(struct plokamyr_flags, v) == 3);
+    CHECK(offsetof(struct plokamyr_counts, b) == 0);
+    CHECK(offsetof(struct plokamyr_counts, h) == 2);
+    CHECK(offsetof(struct plokamyr_counts, s) == 4);
+    CHECK(offsetof(struct plokamyr_counts, d) == 6);
     CHECK(offsetof(struct plokamyr_state, vl) == 0);
     CHECK(offsetof(struct plokamyr_state, level) == 8);
     CHECK(offsetof(struct plokamyr_state, access) == 9);
@@ -25,6 +30,7 @@ static void offsets(void) {
     CHECK(offsetof(struct plokamyr_state, x) == 16);
     CHECK(offsetof(struct plokamyr_state, p) == 264);
     CHECK(offsetof(struct plokamyr_state, ffr) == 776);
+    CHECK(offsetof(struct plokamyr_state, counts) == 808);
     CHECK(offsetof(struct plokamyr_ran, reply) == 0);
     CHECK(offsetof(struct plokamyr_ran, refused) == 4);
     CHECK(offsetof(struct plokamyr_ran, done) == 8);
@@ -84,10 +90,12 @@ static size_t image_of(const struct plokamyr_state *s, const uint32_t *words, si
 typedef struct plokamyr_walked *walk_into(struct plokamyr_walked *place, struct plokamyr_state, uint32_t, uint32_t, uint32_t, uint32_t, uint32_t,
                                           uint64_t *, size_t, uint64_t);
 typedef struct plokamyr_reading *read_into(struct plokamyr_reading *place, const uint8_t *, size_t, uint32_t *, size_t);
+typedef struct plokamyr_state *counted_into(struct plokamyr_state *place, struct plokamyr_state);
 
 /* volatile, so that no compiler sees through it */
 static walk_into *volatile walk_in_place = (walk_into *)(void (*)(void))plokamyr_walk;
 static read_into *volatile read_in_place = (read_into *)(void (*)(void))plokamyr_read;
+static counted_into *volatile counted_in_place = (counted_into *)(void (*)(void))plokamyr_counted;
 
 static void check_fields(const struct plokamyr_state *a, const struct plokamyr_state *b) {
     CHECK(a->vl == b->vl);
@@ -102,6 +110,26 @@ static void check_fields(const struct plokamyr_state *a, const struct plokamyr_s
         for (int k = 0; k < 4; k++) CHECK(a->p[i].words[k] == b->p[i].words[k]);
     }
     for (int k = 0; k < 4; k++) CHECK(a->ffr.words[k] == b->ffr.words[k]);
+    for (int i = 0; i < 16; i++) {
+        CHECK(a->counts[i].b == b->counts[i].b);
+        CHECK(a->counts[i].h == b->counts[i].h);
+        CHECK(a->counts[i].s == b->counts[i].s);
+        CHECK(a->counts[i].d == b->counts[i].d);
+    }
+}
+
+/* Each count comes to its own place; all else is as it was. */
+static void counted_fields(uint64_t vl) {
+    static GUARDED(struct plokamyr_state value) counted;
+    struct plokamyr_state s = sample(vl), uncounted = s;
+    fill(uncounted.counts, sizeof uncounted.counts);
+    FILL(counted);
+    poison_stack();
+    CHECK(counted_in_place(&counted.value, uncounted) == &counted.value);
+    CHECK_GUARDS(counted);
+    check_fields(&counted.value, &s);
+    counted.value = plokamyr_counted(uncounted);
+    check_fields(&counted.value, &s);
 }
 
 static void check_walked(const struct plokamyr_walked *walked, const struct plokamyr_state *after) {
@@ -119,8 +147,8 @@ static void walked_fields(uint64_t vl) {
     s.x[30] = s.x[20] + 2;
     struct plokamyr_state after = s;
     after.x[20] = s.x[30];
-    memset(&after.p[9], 0, sizeof after.p[9]);
-    memset(&after.p[14], 0, sizeof after.p[14]);
+    put_p(&after, 9, (struct plokamyr_predicate){{0}});
+    put_p(&after, 14, (struct plokamyr_predicate){{0}});
     after.flags = (struct plokamyr_flags){.n = false, .z = true, .c = true, .v = false};
     FILL(walked);
     FILL(list);
@@ -217,7 +245,7 @@ static void small_fields(void) {
 static GUARDED(struct plokamyr_state value) box;
 
 static struct plokamyr_state cleared(struct plokamyr_state s, int p) {
-    memset(&s.p[p], 0, sizeof s.p[p]);
+    put_p(&s, p, (struct plokamyr_predicate){{0}});
     return s;
 }
 
@@ -245,7 +273,7 @@ static void stepped_fields(uint64_t vl) {
     after = with_full_ffr(s);
     expect_stepped(&s, 0x252C9000, &after); /* SETFFR */
     after = s;
-    after.p[15] = s.ffr;
+    put_p(&after, 15, s.ffr);
     expect_stepped(&s, 0x2519F00F, &after); /* RDFFR p15.b */
 }
 
@@ -275,15 +303,18 @@ static void ran_fields(uint64_t vl) {
 static GUARDED(struct plokamyr_flags value) flags;
 static GUARDED(uint64_t value[31]) x;
 static GUARDED(struct plokamyr_predicate value[17]) p;
+static GUARDED(struct plokamyr_counts value[16]) counts;
 
 static void lay_out(const struct plokamyr_state *s) {
     FILL(flags);
     FILL(x);
     FILL(p);
+    FILL(counts);
     flags.value = s->flags;
     memcpy(x.value, s->x, sizeof x.value);
     memcpy(p.value, s->p, sizeof s->p);
     p.value[16] = s->ffr;
+    memcpy(counts.value, s->counts, sizeof counts.value);
 }
 
 static void check_parts(const struct plokamyr_state *after) {
@@ -292,10 +323,12 @@ static void check_parts(const struct plokamyr_state *after) {
     memcpy(s.x, x.value, sizeof s.x);
     memcpy(s.p, p.value, sizeof s.p);
     s.ffr = p.value[16];
+    memcpy(s.counts, counts.value, sizeof s.counts);
     check_fields(&s, after);
     CHECK_GUARDS(flags);
     CHECK_GUARDS(x);
     CHECK_GUARDS(p);
+    CHECK_GUARDS(counts);
 }
 
 static void parts_apart(uint64_t vl) {
@@ -306,14 +339,18 @@ static void parts_apart(uint64_t vl) {
     CHECK(plokamyr_step_lent(&after, 0x25C2422F) == PLOKAMYR_DONE); /* NORS p15.b, p0/z, p1.b, p2.b that and the flags, */
     CHECK(plokamyr_step_lent(&after, 0x2558F00E) == PLOKAMYR_DONE); /* RDFFRS p14.b, p0/z the last but one and the flags, */
     CHECK(plokamyr_step_lent(&after, 0x252C9000) == PLOKAMYR_DONE); /* SETFFR the one after the last predicate */
+    struct plokamyr_state anew = recounted(after);
+    check_fields(&after, &anew);
     lay_out(&s);
     poison_stack();
     static const uint32_t words[6] = {0x2550C1E0, 0x252C89FE, 0x2558C00F, 0x25C2422F, 0x2558F00E, 0x252C9000};
-    for (int i = 0; i < 6; i++) CHECK(plokamyr_step_parts(vl, 3, true, &flags.value, x.value, p.value, words[i]) == PLOKAMYR_DONE);
+    for (int i = 0; i < 6; i++) {
+        CHECK(plokamyr_step_parts(vl, 3, true, &flags.value, x.value, p.value, counts.value, words[i]) == PLOKAMYR_DONE);
+    }
     check_parts(&after);
     lay_out(&s);
     poison_stack();
-    check_ran(plokamyr_run_parts(vl, 3, true, &flags.value, x.value, p.value, three_and_none, 4));
+    check_ran(plokamyr_run_parts(vl, 3, true, &flags.value, x.value, p.value, counts.value, three_and_none, 4));
     after = after_three(s);
     check_parts(&after);
 }
@@ -324,6 +361,7 @@ int main(void) {
     images();
     small_fields();
     for (int i = 0; i < 5; i++) {
+        counted_fields(lengths[i]);
         walked_fields(lengths[i]);
         stepped_fields(lengths[i]);
         ran_fields(lengths[i]);

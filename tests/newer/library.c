@@ -7,8 +7,15 @@ static enum plokamyr_reply numbered(uint32_t number) {
     return (enum plokamyr_reply)number;
 }
 
+/* The counts are as many as the vector length says. */
+struct plokamyr_state plokamyr_counted(struct plokamyr_state state) {
+    uint16_t number = (uint16_t)state.vl;
+    for (int i = 0; i < 16; i++) state.counts[i] = (struct plokamyr_counts){number, number, number, number};
+    return state;
+}
+
 enum plokamyr_reply plokamyr_step_parts(uint64_t vl, uint8_t level, bool access, struct plokamyr_flags *flags, uint64_t x[31],
-                                        struct plokamyr_predicate p[17], uint32_t word) {
+                                        struct plokamyr_predicate p[17], struct plokamyr_counts counts[16], uint32_t word) {
     return numbered(word);
 }
 
@@ -18,7 +25,7 @@ enum plokamyr_reply plokamyr_step_lent(struct plokamyr_state *state, uint32_t wo
 
 /* The first two words are the two replies. */
 struct plokamyr_ran plokamyr_run_parts(uint64_t vl, uint8_t level, bool access, struct plokamyr_flags *flags, uint64_t x[31],
-                                       struct plokamyr_predicate p[17], const uint32_t *words, size_t count) {
+                                       struct plokamyr_predicate p[17], struct plokamyr_counts counts[16], const uint32_t *words, size_t count) {
     return (struct plokamyr_ran){numbered(words[0]), numbered(words[1]), count};
 }
 

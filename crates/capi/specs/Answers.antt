@@ -16,8 +16,8 @@ use Rattle.capi.specs.declared.Reading.{Reading}
 use Rattle.capi.specs.declared.Written.{Written}
 
 -- the state of these settings and lent parts
-abbrev pub stateIn : ℕ → ℕ → Bool → List Bool → List ℕ → List (List ℕ) → State
-stateIn vl level access f x p = stateAt (record { vl = vl; level = level; access = access }) f x p
+abbrev pub stateIn : ℕ → ℕ → Bool → List Bool → List ℕ → List (List ℕ) → List (List ℕ) → State
+stateIn vl level access f x p c = stateAt (record { vl = vl; level = level; access = access }) f x p c
 
 -- a step and a run where the state stands: the answer, and the state before and after
 pub record SteppedParts (answer word : ℕ) (before after : State) : Type 0 where

@@ -3,6 +3,7 @@ ghost use mathlib.Core.Path.{_≡_};
 ghost use lib.ListN.{length};
 ghost use Rattle.replies.specs.declared.Reply.the-variants.{Done};
 ghost use Rattle.replies.specs.Reply.{numberOf};
+ghost use Rattle.registers.specs.State.{counted};
 ghost use Rattle.words.specs.Words.{sizeOf};
 ghost use Rattle.machine.specs.Step.{stepOf};
 ghost use Rattle.walk.specs.Walk.{refusalOf, walkOf, wholeOf};
@@ -12,6 +13,7 @@ ghost use Rattle.image.specs.Writing.{writtenOf, bufferAfter};
 ghost use Rattle.transcript.specs.Transcript.{transcriptOf, afterAll, placedAll};
 ghost use Rattle.capi.specs.Answers.{stateIn, SteppedParts, RanParts, walkedAs, readAs, writtenAs};
 ghost use Rattle.words.specs.Rows.{decodedReply, decodedRow, encodedReply, encodedWord};
+use registers::COUNTED;
 use registers::PREDICATES;
 use registers::State;
 use registers::parts::Settings;
@@ -46,7 +48,7 @@ pub struct Written {
     pub length: usize,
 }
 
-// One instruction word, executed on a state's parts where they stand; `p` is P0 to P15 and FFR. The header's plokamyr_step lends those of a struct.
+// One instruction word, executed on a state's parts where they stand; `p` is P0 to P15 and FFR, `counts` those of P0 to P15. The header's plokamyr_step lends those of a struct.
 #[no_mangle]
 pub extern "C" fn plokamyr_step_parts(
     vl: u64,
@@ -55,13 +57,14 @@ pub extern "C" fn plokamyr_step_parts(
     flags: &mut [bool; 4],
     x: &mut [u64; 31],
     p: &mut [[u64; 4]; PREDICATES],
+    counts: &mut [[u16; 4]; COUNTED],
     word: u32,
 ) -> u32
-    ensures { λ r. ⌜ SteppedParts r word (stateIn vl level access (now (flags .entry)) (now (x .entry)) (now (p .entry)))
-        (stateIn vl level access (now (flags .exit)) (now (x .exit)) (now (p .exit))) ⌝ }
+    ensures { λ r. ⌜ SteppedParts r word (stateIn vl level access (now (flags .entry)) (now (x .entry)) (now (p .entry)) (now (counts .entry)))
+        (stateIn vl level access (now (flags .exit)) (now (x .exit)) (now (p .exit)) (now (counts .exit))) ⌝ }
 {
     let settings = Settings { vl, level, access };
-    let reply = machine::engine::step(settings, flags, x, p, word);
+    let reply = machine::engine::step(settings, flags, x, p, counts, word);
     reply.number() as u32
 }
 
@@ -74,13 +77,14 @@ pub extern "C" fn plokamyr_run_parts(
     flags: &mut [bool; 4],
     x: &mut [u64; 31],
     p: &mut [[u64; 4]; PREDICATES],
+    counts: &mut [[u16; 4]; COUNTED],
     words: &[u32],
 ) -> Ran
-    ensures { λ r. ⌜ RanParts r (now (words .entry)) (stateIn vl level access (now (flags .entry)) (now (x .entry)) (now (p .entry)))
-        (stateIn vl level access (now (flags .exit)) (now (x .exit)) (now (p .exit))) ⌝ }
+    ensures { λ r. ⌜ RanParts r (now (words .entry)) (stateIn vl level access (now (flags .entry)) (now (x .entry)) (now (p .entry)) (now (counts .entry)))
+        (stateIn vl level access (now (flags .exit)) (now (x .exit)) (now (p .exit)) (now (counts .exit))) ⌝ }
 {
     let settings = Settings { vl, level, access };
-    let went = machine::engine::run(settings, flags, x, p, words);
+    let went = machine::engine::run(settings, flags, x, p, counts, words);
     let reply = went.reply;
     let refused = went.refused;
     Ran {
@@ -88,6 +92,14 @@ pub extern "C" fn plokamyr_run_parts(
         refused: refused.number() as u32,
         done: went.done,
     }
+}
+
+// The state with its counts worked out, and all else as it is.
+#[no_mangle]
+pub extern "C" fn plokamyr_counted(state: State) -> State
+    ensures { λ r. ⌜ r ≡ counted state ⌝ }
+{
+    state.counted()
 }
 
 // One instruction word, executed on the state where it stands, by way of the step by value.

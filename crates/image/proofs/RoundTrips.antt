@@ -23,9 +23,9 @@ use Rattle.predicates.proofs.Words.{Words, pack-words}
 use Rattle.replies.specs.declared.Reply.the-variants as R
 use Rattle.registers.specs.declared.State.{State}
 use Rattle.registers.specs.Legal.{isLength, settingsAllowed, legal}
-use Rattle.registers.specs.State.{allFalse, ffr, readP}
-use Rattle.registers.proofs.Legality.{Legal, legal-has, has-legal, settings-has, has-settings, quads}
-use Rattle.registers.proofs.Registers.{Sized}
+use Rattle.registers.specs.State.{allFalse, ffr, counted, readP}
+use Rattle.registers.proofs.Legality.{Legal, legal-has, has-legal, settings-has, has-settings, quads, legal-counted, made-counts}
+use Rattle.registers.proofs.Registers.{Sized, all-length}
 use Rattle.image.specs.Sections.{Section, setting, sections, sectionAt, countOf, contentOf, isMissing, after, sectionReply, sectionsReply, startOf, bytesOf, imageLength, largestImage}
 use Rattle.image.specs.Image.{section, settingItems, predicateBytes, flagItems, imageOf}
 use Rattle.image.specs.Reading.{vlOf, sectionsOf, xAt, predicatesAt, ffrAt, flagsAt, wordsAt, isOld, imageReply, flagsIn, predicateOf, ffrIn, stateOf, wordsOf, renewed, readOf, listAfter}
@@ -212,7 +212,7 @@ module _ (s : State) (ws : List ℕ) (held : Held s) (ok : legal s ≡ true) (fe
       (parts-joined value 8 (le 8) 0 (s .x) r2 (λ i. length-le 8 (getD (s .x) i 0)) (λ i l. value-le 8 (getD (s .x) i 0) (held .xs i))))
 
   predicate-same : (r : ℕ) → r < 17 → predicateOf (predicateBytes size (readP s r)) ≡ readP s r
-  predicate-same r h = predicate-back size (readP s r) (held .ps r h) (rw (length-bits (s .vl) (lawful .len)) at (lawful .bits r h))
+  predicate-same r h = predicate-back size (readP s r) (held .ps r h) (rw (length-bits (s .vl) (lawful .len)) at (lawful .bits r (omega (arith, held .sized .ps))))
 
   low-same : (i : ℕ) → i < length low → predicateOf (predicateBytes size (getD low i allFalse)) ≡ getD low i allFalse
   low-same i l = rw (getD-take ffr (s .p) i allFalse (omega (arith, length-low))) (predicate-same i (omega (arith, length-low)))
@@ -249,7 +249,7 @@ module _ (s : State) (ws : List ℕ) (held : Held s) (ok : legal s ≡ true) (fe
 
   state-back : stateOf (imageOf s ws) ≡ s
   unfolding stateOf joined le
-  state-back = rw (image-is, p-back, ffr-back, all-back, x-back, flags-back, vl-read, settings-content, level-back, digit-byte (s .access))
+  state-back = rw (image-is, p-back, ffr-back, all-back, x-back, flags-back, vl-read, settings-content, level-back, digit-byte (s .access)) (legal-counted s (held .sized) ok)
 
   words-back : wordsOf (imageOf s ws) ≡ ws
   unfolding wordsOf
@@ -513,11 +513,20 @@ module _ (image : List ℕ) (room : ℕ) (bytes : AreBytes image) (done : imageR
         | no l ↦ let e : r ≡ ffr = omega arith in rw (e, read-ffr image) (ffr-bytes (isOld image) refl)
       ]
 
+  -- The state that was read has its counts worked out.
+  pub read-counted : counted (stateOf image) ≡ stateOf image
+  unfolding stateOf
+  read-counted = refl
+
+  predicates-read : length (stateOf image .p) ≡ 17
+  unfolding stateOf
+  predicates-read = length-append (parts predicateOf k ffr (contentOf (predicatesAt image))) (ffrIn image ∷ []) ∙ rw (length-parts predicateOf k ffr (contentOf (predicatesAt image)))
+
   -- A state that was read is legal.
   pub read-legal : legal (stateOf image) ≡ true
   unfolding stateOf
   read-legal =
-      has-legal (stateOf image) (record { len = is-length; level = settings-has vl (getD (contentOf image) 1 0) settings-allowed .1; bits = bits })
+      has-legal (stateOf image) (record { len = is-length; level = settings-has vl (getD (contentOf image) 1 0) settings-allowed .1; bits = λ r h. bits r (omega (arith, predicates-read)); counts = made-counts (stateOf image) predicates-read refl })
     where
       bits : (r : ℕ) → r < 17 → hasBitFrom (predicateLength vl) (readP (stateOf image) r) ≡ false
       bits r h = let b = predicate-bytes r h in rw (length-bits vl is-length, b .is) (predicate-within k (b .bs) (b .few) (b .each))
@@ -539,7 +548,8 @@ module _ (image : List ℕ) (room : ℕ) (bytes : AreBytes image) (done : imageR
       record {
         sized = record {
           xs = length-parts value 8 31 (contentOf (xAt image));
-          ps = length-append (parts predicateOf k ffr (contentOf (predicatesAt image))) (ffrIn image ∷ []) ∙ rw (length-parts predicateOf k ffr (contentOf (predicatesAt image)));
+          ps = predicates-read;
+          cs = all-length _ _ predicates-read;
         };
         xs = part-small 8 31 (contentOf (xAt image)) (bytes-drop 4 (xAt image) (bytes-at 1));
         ps = λ r h. rw (predicate-bytes r h .is) (pack-words _);

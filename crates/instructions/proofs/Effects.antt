@@ -7,13 +7,15 @@ use Rattle.predicates.specs.declared.Flags.{Flags}
 use Rattle.predicates.specs.declared.Predicate.{Predicate}
 use Rattle.predicates.specs.PredTest.{nzcv}
 use Rattle.predicates.specs.Predicate.{allFalse}
+use Rattle.tally.specs.Counts.{countAt}
 use Rattle.scalars.specs.declared.Condition.{Condition}
 use Rattle.words.specs.declared.Target.{Target}
 use Rattle.words.specs.declared.Instruction.{Instruction}
-use Rattle.words.specs.declared.Instruction.the-variants.{While}
+use Rattle.words.specs.declared.Instruction.the-variants.{While, IncDec, Saturating}
 use Rattle.instructions.specs.declared.operands.Registers.{Registers}
 use Rattle.instructions.specs.declared.operands.Values.{Values}
 use Rattle.instructions.specs.declared.effect.Computed.{Computed}
+use Rattle.instructions.specs.Counts.{incDecOf, saturatingOf}
 use Rattle.instructions.specs.Effect.{givesX, givesPF, givesPPF, computed}
 use Rattle.instructions.specs.Instructions.{whileOf, computeOf}
 use Rattle.instructions.specs.Operands.{none, targetOf, secondTargetOf, registersOf}
@@ -35,6 +37,17 @@ x-is e v w he hv = he ∙ ap (λ (x : ℕ). computed (givesX x)) hv
 
 pub by-form : (i j : Instruction) (v : Values) (vl : ℕ) (e : Computed) → i ≡ j → e ≡ computed (computeOf j v vl) → e ≡ computed (computeOf i v vl)
 by-form i j v vl e h he = he ∙ sym (ap (λ (k : Instruction). computed (computeOf k v vl)) h)
+
+-- by the count that is kept
+pub by-count : (i : Instruction) (d : Bool) (size : Size) (pm rdn : ℕ) (v : Values) (vl n : ℕ) (e : Computed) → i ≡ IncDec d size pm rdn → n ≡ countAt size (v .counts) → e ≡ computed (incDecOf d (v .rn) n)
+    → e ≡ computed (computeOf i v vl)
+unfolding computeOf
+by-count i d size pm rdn v vl n e h hn he = by-form i (IncDec d size pm rdn) v vl e h (he ∙ ap (λ (k : ℕ). computed (incDecOf d (v .rn) k)) hn)
+
+pub by-saturating : (i : Instruction) (d u w : Bool) (size : Size) (pm rdn : ℕ) (v : Values) (vl n : ℕ) (e : Computed) → i ≡ Saturating d u w size pm rdn → n ≡ countAt size (v .counts)
+    → e ≡ computed (saturatingOf d u w (v .rn) n) → e ≡ computed (computeOf i v vl)
+unfolding computeOf
+by-saturating i d u w size pm rdn v vl n e h hn he = by-form i (Saturating d u w size pm rdn) v vl e h (he ∙ ap (λ (k : ℕ). computed (saturatingOf d u w (v .rn) k)) hn)
 
 pub by-target : (c : Condition) (u : Bool) (s t : Target) (size : Size) (rn rm vl : ℕ) (e : Computed) → s ≡ t → e ≡ computed (whileOf c u t size rn rm vl) → e ≡ computed (whileOf c u s size rn rm vl)
 by-target c u s t size rn rm vl e h he = he ∙ sym (ap (λ (k : Target). computed (whileOf c u k size rn rm vl)) h)

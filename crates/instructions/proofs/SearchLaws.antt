@@ -104,14 +104,11 @@ module _ (size : Size) (v dn : Predicate) (vl e n : ℕ) (found-is : e ≡ nextE
 
 -- ---- INCP and DECP
 
-pub count-small : (vl : ℕ) (size : Size) (p : Predicate) (n : ℕ) → n ≡ count (active (shift size) p) (elements vl size) → n ≤ 256
-count-small vl size p n e = omega (arith, count-le (active (shift size) p) (elements vl size), elements-le vl size)
-
 -- a difference that wraps
-pub wrapped : (x n r : ℕ) → n ≤ 256 → x < 2 ^ 64 → r < 2 ^ 64 → (r + n) % 2 ^ 64 ≡ x → r ≡ (x + (2 ^ 64 - n)) % 2 ^ 64
+pub wrapped : (x n r : ℕ) → n < 2 ^ 16 → x < 2 ^ 64 → r < 2 ^ 64 → (r + n) % 2 ^ 64 ≡ x → r ≡ (x + (2 ^ 64 - n)) % 2 ^ 64
 wrapped x n r h l m e = omega arith
 
-pub dec-is : (d : Bool) (x n r : ℕ) → d ≡ true → n ≤ 256 → x < 2 ^ 64 → r < 2 ^ 64 → (r + n) % 2 ^ 64 ≡ x → r ≡ pick d ((x + (2 ^ 64 - n)) % 2 ^ 64) ((x + n) % 2 ^ 64)
+pub dec-is : (d : Bool) (x n r : ℕ) → d ≡ true → n < 2 ^ 16 → x < 2 ^ 64 → r < 2 ^ 64 → (r + n) % 2 ^ 64 ≡ x → r ≡ pick d ((x + (2 ^ 64 - n)) % 2 ^ 64) ((x + n) % 2 ^ 64)
 dec-is d x n r hd h l m e = wrapped x n r h l m e ∙ sym (ap (λ (t : Bool). pick t ((x + (2 ^ 64 - n)) % 2 ^ 64) ((x + n) % 2 ^ 64)) hd)
 
 pub inc-is : (d : Bool) (x n r : ℕ) → d ≡ false → r ≡ (x + n) % 2 ^ 64 → r ≡ pick d ((x + (2 ^ 64 - n)) % 2 ^ 64) ((x + n) % 2 ^ 64)

@@ -1,4 +1,4 @@
--- Counts of true elements: CNTP, INCP, DECP and their saturating forms.
+-- Counts of true elements: CNTP works one out, INCP, DECP and their saturating forms take the one that is kept.
 use Prim.Native.Nat.{ℕ, _+_, _-_, _%_, _^_}
 use mathlib.Core.Bool.{Bool, _&&_}
 use Rattle.bits.specs.declared.Size.{Size}
@@ -11,16 +11,13 @@ use Rattle.scalars.specs.Value.{widthOf}
 use Rattle.scalars.specs.Saturate.{saturating}
 use Rattle.instructions.specs.Effect.{Effect, givesX}
 
--- Pm's count, added or subtracted modulo 2 ^ 64
-unfoldable pub incDecOf : Bool → Size → ℕ → Predicate → ℕ → Effect
-incDecOf decrement size rdn pm vl =
-    let n = count (active (shift size) pm) (elements vl size) in
-    givesX (pick decrement ((rdn + (2 ^ 64 - n)) % 2 ^ 64) ((rdn + n) % 2 ^ 64))
+-- Pm's count as it is kept, n, added or subtracted modulo 2 ^ 64
+unfoldable pub incDecOf : Bool → ℕ → ℕ → Effect
+incDecOf decrement rdn n = givesX (pick decrement ((rdn + (2 ^ 64 - n)) % 2 ^ 64) ((rdn + n) % 2 ^ 64))
 
 -- the same, on the whole register or its low word, stopped at the ends of the range
-unfoldable pub saturatingOf : Bool → Bool → Bool → Size → ℕ → Predicate → ℕ → Effect
-saturatingOf decrement unsigned wide size rdn pm vl =
-    givesX (saturating (widthOf wide) unsigned decrement rdn (count (active (shift size) pm) (elements vl size)))
+unfoldable pub saturatingOf : Bool → Bool → Bool → ℕ → ℕ → Effect
+saturatingOf decrement unsigned wide rdn n = givesX (saturating (widthOf wide) unsigned decrement rdn n)
 
 -- the elements true in Pg and Pn
 unfoldable pub cntpOf : Size → Predicate → Predicate → ℕ → Effect

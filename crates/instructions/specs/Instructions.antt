@@ -3,6 +3,7 @@ use Prim.Native.Nat.{ℕ}
 use mathlib.Core.Bool.{Bool}
 use Rattle.bits.specs.declared.Size.{Size}
 use Rattle.predicates.specs.Predicate.{allFalse}
+use Rattle.tally.specs.Counts.{countAt}
 use Rattle.scalars.specs.declared.Condition.{Condition}
 use Rattle.words.specs.declared.Target.{Target}
 use Rattle.words.specs.declared.Target.the-variants.{One, Pair, Counter}
@@ -24,8 +25,8 @@ whileOf c u (Counter four pnd) size rn rm vl = whileCounterOf c u four size rn r
 
 unfoldable pub computeOf : Instruction → Values → ℕ → Effect
 computeOf (While c u t size rn rm) v vl = whileOf c u t size (v .rn) (v .rm) vl
-computeOf (Saturating d u sf size pm rdn) v vl = saturatingOf d u sf size (v .rn) (v .pm) vl
-computeOf (IncDec d size pm rdn) v vl = incDecOf d size (v .rn) (v .pm) vl
+computeOf (Saturating d u sf size pm rdn) v vl = saturatingOf d u sf (v .rn) (countAt size (v .counts))
+computeOf (IncDec d size pm rdn) v vl = incDecOf d (v .rn) (countAt size (v .counts))
 computeOf (Cntp size pg pn rd) v vl = cntpOf size (v .pg) (v .pn) vl
 computeOf (CntpCounter four size pnn rd) v vl = cntpCounterOf four size (v .pn) vl
 computeOf (Pnext size pv pdn) v vl = pnextOf size (v .pg) (v .pn) vl

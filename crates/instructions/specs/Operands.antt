@@ -23,7 +23,7 @@ secondTargetOf (One sf pd) = none
 secondTargetOf (Pair pd) = 2 * pd + 1
 secondTargetOf (Counter four pnd) = none
 
--- read: Rn, Rm; Pg (PNEXT's Pv too), Pn (a Pdn too, and FFR where it is read), Pm. Written: Rd, Pd (or FFR), the second of a pair, and whether the flags are:
+-- read: Rn, Rm; Pg (PNEXT's Pv too), Pn (a Pdn too, and FFR where it is read), Pm with the counts beside it. Written: Rd, Pd (or FFR), the second of a pair, and whether the flags are:
 -- PFALSE, logic without S, everything that writes X, and of the forms on FFR all but RDFFRS keep them
 abbrev pub registersOf : Instruction → Registers
 registersOf (While c u t size rn rm) = record { rn = rn; rm = rm; pg = none; pn = none; pm = none; rd = none; pd = targetOf t; pd2 = secondTargetOf t; flags = true }

@@ -7,30 +7,21 @@ ghost use mathlib.Core.Path.{_≡_};
 ghost use Rattle.instructions.specs.Counts.{incDecOf, saturatingOf, cntpOf};
 ghost use Rattle.instructions.specs.Effect.{computed};
 
-// INCP and DECP: they wrap.
-pub fn inc_dec(decrement: bool, size: Size, rdn: u64, pm: Predicate, vl: u64) -> Computed
-    ensures { λ e. ⌜ e ≡ computed (incDecOf decrement size rdn pm vl) ⌝ }
+// INCP and DECP, by the count that is kept: they wrap.
+pub fn inc_dec(decrement: bool, rdn: u64, n: u16) -> Computed
+    ensures { λ e. ⌜ e ≡ computed (incDecOf decrement rdn n) ⌝ }
 {
-    let n = pm.count_active(vl, size);
+    let n = n as u64;
     if decrement {
         return gives_x(std::num::wrapping_sub_u64(rdn, n));
     }
     gives_x(std::num::wrapping_add_u64(rdn, n))
 }
 
-// SQINCP, SQDECP, UQINCP and UQDECP.
-pub fn saturating(
-    decrement: bool,
-    unsigned: bool,
-    wide: bool,
-    size: Size,
-    rdn: u64,
-    pm: Predicate,
-    vl: u64,
-) -> Computed
-    ensures { λ e. ⌜ e ≡ computed (saturatingOf decrement unsigned wide size rdn pm vl) ⌝ }
+// SQINCP, SQDECP, UQINCP and UQDECP, by the count that is kept.
+pub fn saturating(decrement: bool, unsigned: bool, wide: bool, rdn: u64, n: u16) -> Computed
+    ensures { λ e. ⌜ e ≡ computed (saturatingOf decrement unsigned wide rdn n) ⌝ }
 {
-    let n = pm.count_active(vl, size) as u16;
     gives_x(scalars::saturate(decrement, unsigned, wide, rdn, n))
 }
 

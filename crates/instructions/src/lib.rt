@@ -31,6 +31,7 @@ pub fn compute(i: Instruction, v: Values, vl: u64) -> Computed
     let pg = v.pg;
     let pn = v.pn;
     let pm = v.pm;
+    let kept = v.counts;
     match i {
         Instruction::While {
             condition,
@@ -45,12 +46,12 @@ pub fn compute(i: Instruction, v: Values, vl: u64) -> Computed
             wide,
             size,
             ..
-        } => counts::saturating(decrement, unsigned, wide, size, v.rn, pm, vl),
+        } => counts::saturating(decrement, unsigned, wide, v.rn, kept.at(size)),
         Instruction::IncDec {
             decrement,
             size,
             ..
-        } => counts::inc_dec(decrement, size, v.rn, pm, vl),
+        } => counts::inc_dec(decrement, v.rn, kept.at(size)),
         Instruction::Cntp { size, .. } => counts::cntp(size, pg, pn, vl),
         Instruction::CntpCounter { four, size, .. } => counter::cntp_counter(four, size, pn, vl),
         Instruction::Pnext { size, .. } => searches::pnext(size, pg, pn, vl),

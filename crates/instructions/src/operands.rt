@@ -1,6 +1,7 @@
 // The registers that an instruction reads and writes, and the values that it reads.
 use predicates::Predicate;
 use registers::FFR;
+use tally::Counts;
 use words::Instruction;
 use words::Target;
 ghost use mathlib.Core.Path.{_≡_};
@@ -12,7 +13,7 @@ const NONE: u8 = 255;
 
 // The numbers of registers. Those of numbers are whole words, so that none is packed beside another.
 pub struct Registers {
-    // Read: Rn and Rm; Pg (PNEXT's Pv too), Pn (a Pdn too, and FFR where it is read) and Pm.
+    // Read: Rn and Rm; Pg (PNEXT's Pv too), Pn (a Pdn too, and FFR where it is read) and Pm, with its counts.
     pub rn: u64,
     pub rm: u64,
     pub pg: u64,
@@ -30,6 +31,8 @@ pub struct Values {
     pub pg: Predicate,
     pub pn: Predicate,
     pub pm: Predicate,
+    // Those that are kept beside Pm.
+    pub counts: Counts,
     pub rn: u64,
     pub rm: u64,
 }

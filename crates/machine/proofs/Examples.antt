@@ -10,15 +10,17 @@ use Rattle.bits.specs.Bits.{testBit, number, elementBit}
 use Rattle.bits.specs.Search.{count, some, afterLast, scan}
 use Rattle.predicates.specs.PredTest.{atLowest, atHighest, predTest, nzcv, flagsOf}
 use Rattle.predicates.specs.Predicate.{bitAt, pack, active, spread, elements, predicateLength, hasBitFrom, monotonic, allFalse}
+use Rattle.tally.specs.declared.Counts.{Counts}
+use Rattle.tally.specs.Counts.{countsOf, sameCounts}
 use Rattle.registers.specs.declared.State.{State}
-use Rattle.registers.specs.Legal.{isLength, hasStrayBit, illegal}
+use Rattle.registers.specs.Legal.{isLength, hasStrayBit, hasWrongCount, illegal}
 use Rattle.replies.specs.Reply.{numberOf}
-use Rattle.registers.specs.State.{readX, readP, withX, withP, withFlags}
+use Rattle.registers.specs.State.{allCounts, made, readX, readP, readCounts, withX, withP, withFlags}
 use Rattle.scalars.specs.declared.Condition.the-variants.{Less, LessEqual, GreaterEqual, Greater}
 use Rattle.words.specs.declared.Decoded.{Decoded}
 use Rattle.words.specs.declared.Decoded.the-variants.{Ours, Refused}
 use Rattle.words.specs.declared.Instruction.{Instruction}
-use Rattle.words.specs.declared.Instruction.the-variants.{While, Saturating, IncDec, CntpCounter, Pnext, Setffr, Wrffr, Rdffr, RdffrPg, RdffrsPg}
+use Rattle.words.specs.declared.Instruction.the-variants.{While, Saturating, IncDec, CntpCounter, Pnext, Ptest, Pfalse, Setffr, Wrffr, Rdffr, RdffrPg, RdffrsPg}
 use Rattle.words.specs.declared.Target.the-variants.{One, Pair, Counter}
 use Rattle.words.specs.Words.{readBy, decodeOf, wordOf, fieldsOf}
 use Rattle.instructions.specs.Counter.{counterOf, counterFlags, countEnd, expanded, whileCounterOf, cntpCounterOf}
@@ -26,7 +28,7 @@ use Rattle.instructions.proofs.Readings.{expandedTo14}
 use Rattle.instructions.specs.Counts.{incDecOf, saturatingOf}
 use Rattle.instructions.specs.Ffr.{setffrOf, underMask, rdffrsPgOf}
 use Rattle.instructions.specs.Instructions.{computeOf}
-use Rattle.instructions.specs.Searches.{pnextOf}
+use Rattle.instructions.specs.Searches.{pnextOf, ptestOf}
 use Rattle.instructions.specs.Whiles.{allHeld, whileElement, whileOneOf, whilePairOf}
 use Rattle.scalars.specs.Saturate.{clamp, saturating}
 use Rattle.scalars.specs.While.{operandAt, comparison}
@@ -37,14 +39,8 @@ use Rattle.machine.proofs.Counters.{counter-reads-alike}
 
 -- VL 128, level 3, access on; X1 and X2, P0 and P1 as given, all else zero
 start : ℕ → ℕ → ℕ → ℕ → State
-start x1 x2 p0 p1 = record {
-  vl = 128;
-  level = 3;
-  access = true;
-  flags = flagsOf 0;
-  x = set (set (replicate 31 0) 1 x1) 2 x2;
-  p = set (set (replicate 17 allFalse) 0 (pack (testBit p0))) 1 (pack (testBit p1));
-}
+start x1 x2 p0 p1 =
+    made 128 3 true (flagsOf 0) (set (set (replicate 31 0) 1 x1) 2 x2) (set (set (replicate 17 allFalse) 0 (pack (testBit p0))) 1 (pack (testBit p1)))
 
 -- what is looked at after a step: the reply, NZCV, X1, and the words of P0, P1 and P8
 seen : Stepped → List ℕ
@@ -82,7 +78,7 @@ one i a b = after (start a b 0 0) i
 
 -- level 0, access off, all else zero; and the replies to words there
 barred : State
-barred = record { vl = 128; level = 0; access = false; flags = flagsOf 0; x = replicate 31 0; p = replicate 17 allFalse }
+barred = made 128 0 false (flagsOf 0) (replicate 31 0) (replicate 17 allFalse)
 
 -- with FFR as given, what the first instruction and then the second leave
 first-fault : ℕ → ℕ → Instruction → Instruction → List ℕ
@@ -95,6 +91,25 @@ written ps = map (λ (p : ℕ). numberOf (stepOf (start 0 0 0 p) (wordOf (Wrffr 
 replies : List ℕ → List ℕ
 replies ws = map (λ (w : ℕ). numberOf (stepOf barred w .reply)) ws
 
+-- the counts beside a register, B first
+kept : State → ℕ → List ℕ
+kept s r = let c = readCounts s r in c .b ∷ c .h ∷ c .s ∷ c .d ∷ []
+
+-- P0 and P1 as given and their counts as kept after an instruction
+counts : ℕ → ℕ → Instruction → List ℕ
+counts p0 p1 i = let t = stepOf (start 0 0 p0 p1) (wordOf i) .state in kept t 0 ++ kept t 1
+
+-- the replies to PFALSE P2 with these counts beside P1, which holds 0x0111
+trusted : List Counts → List ℕ
+trusted cs = map (λ (c : Counts). numberOf (stepOf (record { vl = s .vl; level = s .level; access = s .access; flags = s .flags; x = s .x; p = s .p; counts = set (s .counts) 1 c }) (wordOf (Pfalse 2)) .reply)) cs
+  where
+    s : State
+    s = start 0 0 0 0x0111
+
+four : ℕ → ℕ → ℕ → ℕ → Counts
+four b h s d = record { b = b; h = h; s = s; d = d }
+
+-- request 6: counts before and after PFALSE, PNEXT and the pair WHILE, which X1 and X2 of 0 make false; right counts, and each wrong by one
 -- request 5: SETFFR, and WRFFR of a run, each read by RDFFR; RDFFR under Pg without flags and with them; WRFFR of runs, empty and full, and of others; and where access is off
 -- request 4: zero, and WHILELE with bit 31; BRKA, and SEL with S = 1; and WHILELE, which is ours
 pub examples : List Example
@@ -118,6 +133,11 @@ examples =
     ∷ base 14 (read (decodeOf 0x25E55893)) (read (Ours (While Greater true (Pair 1) Sz.D 4 5)))
     ∷ base 14 (read (decodeOf 0x252A8C23)) (read (Ours (Saturating true false true Sz.B 1 3)))
     ∷ request 2 (after (withP (start 9 0 0 0) 8 (pack (testBit 0x0081))) (CntpCounter true Sz.B 8 1)) (gives 0b0000 0 0 0 0x0081)
+    ∷ request 6 (counts 0x00F1 0x0111 (Ptest 0 1)) (5 ∷ 3 ∷ 2 ∷ 1 ∷ 3 ∷ 3 ∷ 3 ∷ 2 ∷ [])
+    ∷ request 6 (counts 0x00F1 0x0111 (Pfalse 0)) (0 ∷ 0 ∷ 0 ∷ 0 ∷ 3 ∷ 3 ∷ 3 ∷ 2 ∷ [])
+    ∷ request 6 (counts 0x0010 0x0111 (Pnext Sz.B 1 0)) (1 ∷ 1 ∷ 1 ∷ 1 ∷ 3 ∷ 3 ∷ 3 ∷ 2 ∷ [])
+    ∷ request 6 (counts 0x00F1 0x0111 (While Less true (Pair 0) Sz.B 1 2)) (0 ∷ 0 ∷ 0 ∷ 0 ∷ 0 ∷ 0 ∷ 0 ∷ 0 ∷ [])
+    ∷ request 6 (trusted (four 3 3 3 2 ∷ four 4 3 3 2 ∷ four 3 2 3 2 ∷ four 3 3 4 2 ∷ four 3 3 3 1 ∷ [])) (0 ∷ 4 ∷ 4 ∷ 4 ∷ 4 ∷ [])
     ∷ request 5 (first-fault 0x0005 0 Setffr (Rdffr 0)) (gives 0b0000 0 0xFFFF 0 0)
     ∷ request 5 (first-fault 0x0005 0x000F (Wrffr 1) (Rdffr 0)) (gives 0b0000 0 0x000F 0x000F 0)
     ∷ request 5 (first-fault 0x003F 0x00F0 (RdffrPg 1 8) (Rdffr 0)) (gives 0b0000 0 0x003F 0x00F0 0x0030)
@@ -128,11 +148,11 @@ examples =
     ∷ []
 
 pub as-wanted : map (λ e. e .got) examples ≡ map (λ e. e .wanted) examples
-unfolding start seen after gives read one base request barred replies first-fault written examples testBit number elementBit count some afterLast scan bitAt pack active spread elements predicateLength hasBitFrom atLowest atHighest predTest nzcv flagsOf isLength hasStrayBit illegal withX withP withFlags readBy operandAt comparison clamp saturating allHeld whileElement counterOf counterFlags countEnd expanded whileOneOf whilePairOf whileCounterOf cntpCounterOf incDecOf saturatingOf pnextOf monotonic setffrOf underMask rdffrsPgOf computeOf apply executeOf afterWord stepOf
+unfolding start seen after gives read one base request barred kept counts trusted four replies first-fault written examples testBit number elementBit count some afterLast scan bitAt pack active spread elements predicateLength hasBitFrom atLowest atHighest predTest nzcv flagsOf isLength hasStrayBit allCounts countsOf sameCounts hasWrongCount illegal withX withP withFlags readBy operandAt comparison clamp saturating allHeld whileElement counterOf counterFlags countEnd expanded whileOneOf whilePairOf whileCounterOf cntpCounterOf incDecOf saturatingOf pnextOf ptestOf monotonic setffrOf underMask rdffrsPgOf computeOf apply executeOf afterWord stepOf
 as-wanted = refl
 
 -- what `counter-reads-alike` asks of a state is met: the counter of example 7
 seventh-reads-alike : (b : ℕ) → expandedTo14 128 (readP (executeOf (start 0 2 0 0) (While LessEqual false (Counter false 0) Sz.S 1 2)) 8) b
     ≡ expanded 128 (readP (executeOf (start 0 2 0 0) (While LessEqual false (Counter false 0) Sz.S 1 2)) 8) b
-unfolding start some bitAt testBit number pack predicateLength hasBitFrom isLength hasStrayBit illegal
-seventh-reads-alike = counter-reads-alike (start 0 2 0 0) (record { xs = refl; ps = refl }) LessEqual false false Sz.S 1 2 0 (omega arith) refl
+unfolding start some bitAt testBit number pack predicateLength hasBitFrom isLength hasStrayBit allCounts countsOf sameCounts hasWrongCount illegal active elements count
+seventh-reads-alike = counter-reads-alike (start 0 2 0 0) (record { xs = refl; ps = refl; cs = refl }) LessEqual false false Sz.S 1 2 0 (omega arith) refl

@@ -11,8 +11,10 @@ use Rattle.predicates.specs.PredTest.{flagsOf}
 use Rattle.predicates.proofs.Flagging.{flags-back}
 use Rattle.registers.specs.declared.State.{State}
 use Rattle.registers.specs.declared.parts.Settings.{Settings}
-use Rattle.registers.specs.Parts.{predicatesOf, flagsFrom, stateAt}
-use Rattle.registers.specs.State.{made, readX, readP, withX, withP, withFlags}
+use Rattle.tally.specs.declared.Counts.{Counts}
+use Rattle.tally.specs.Counts.{countsOf}
+use Rattle.registers.specs.Parts.{predicatesOf, countsFrom, flagsFrom, stateAt}
+use Rattle.registers.specs.State.{assembled, readX, readP, readCounts, withX, withP, withFlags}
 use Rattle.words.specs.declared.Instruction.{Instruction}
 use Rattle.instructions.specs.declared.operands.Registers.{Registers}
 use Rattle.instructions.specs.declared.operands.Values.{Values}
@@ -22,9 +24,9 @@ use Rattle.instructions.specs.Instructions.{computeOf}
 use Rattle.instructions.specs.Operands.{registersOf}
 use Rattle.machine.specs.Execute.{valuesOf, apply, executeOf}
 
-pub values-are : (s : State) (r : Registers) (rn rm : ℕ) (pg pn pm : Predicate) → rn ≡ readX s (r .rn) → rm ≡ readX s (r .rm)
-    → pg ≡ readP s (r .pg) → pn ≡ readP s (r .pn) → pm ≡ readP s (r .pm) → record { pg = pg; pn = pn; pm = pm; rn = rn; rm = rm } ≡ valuesOf s r
-values-are s r rn rm pg pn pm hn hm hg hpn hpm = λ i. record { pg = hg i; pn = hpn i; pm = hpm i; rn = hn i; rm = hm i }
+pub values-are : (s : State) (r : Registers) (rn rm : ℕ) (pg pn pm : Predicate) (c : Counts) → rn ≡ readX s (r .rn) → rm ≡ readX s (r .rm)
+    → pg ≡ readP s (r .pg) → pn ≡ readP s (r .pn) → pm ≡ readP s (r .pm) → c ≡ readCounts s (r .pm) → record { pg = pg; pn = pn; pm = pm; counts = c; rn = rn; rm = rm } ≡ valuesOf s r
+values-are s r rn rm pg pn pm c hn hm hg hpn hpm hc = λ i. record { pg = hg i; pn = hpn i; pm = hpm i; counts = hc i; rn = hn i; rm = hm i }
 
 -- the number NZCV stands for the flags
 pub effect-back : (e : Effect) → effectIn (computed e) ≡ e
@@ -38,9 +40,9 @@ executes s t i r v e hr hv he ht =
     ∙ ap (λ (u : Values). apply s r (computeOf i u (s .vl))) hv ∙ ap (λ (q : Registers). apply s q (computeOf i (valuesOf s q) (s .vl))) hr
 
 -- the same where values were read whatever the settings and flags
-pub executes-in : (s : Settings) (f : List Bool) (x : List ℕ) (p : List (List ℕ)) (t : State) (i : Instruction) (r : Registers) (v : Values) (e : Computed) → r ≡ registersOf i
-    → ((u : Settings) → (g : List Bool) → v ≡ valuesOf (stateAt u g x p) r) → e ≡ computed (computeOf i v (s .vl)) → t ≡ apply (stateAt s f x p) r (effectIn e) → t ≡ executeOf (stateAt s f x p) i
-executes-in s f x p t i r v e hr hv he ht = executes (stateAt s f x p) t i r v e hr (hv s f) he ht
+pub executes-in : (s : Settings) (f : List Bool) (x : List ℕ) (p c : List (List ℕ)) (t : State) (i : Instruction) (r : Registers) (v : Values) (e : Computed) → r ≡ registersOf i
+    → ((u : Settings) → (g : List Bool) → v ≡ valuesOf (stateAt u g x p c) r) → e ≡ computed (computeOf i v (s .vl)) → t ≡ apply (stateAt s f x p c) r (effectIn e) → t ≡ executeOf (stateAt s f x p c) i
+executes-in s f x p c t i r v e hr hv he ht = executes (stateAt s f x p c) t i r v e hr (hv s f) he ht
 
 -- ---- an effect, written part by part
 
@@ -53,22 +55,21 @@ unfolding apply
 applied s s₁ s₂ s₃ t r e h₁ h₂ h₃ h₄ =
     h₄ ∙ ap (λ (u : State). withP u (r .pd2) (e .pd2)) (h₃ ∙ ap (λ (u : State). withP u (r .pd) (e .pd)) (h₂ ∙ ap (λ (u : State). withX u (r .rd) (e .rd)) h₁))
 
-pub written : (s : Settings) (f g : List Bool) (x y : List ℕ) (p q o : List (List ℕ)) (r : Registers) (e : Computed)
+pub written : (s : Settings) (f g : List Bool) (x y : List ℕ) (p q o c k l : List (List ℕ)) (r : Registers) (e : Computed)
     → flagsFrom g ≡ pick (r .flags) (flagsOf (e .nzcv)) (flagsFrom f) → y ≡ set x (r .rd) (e .rd)
     → predicatesOf q ≡ set (predicatesOf p) (r .pd) (e .pd) → predicatesOf o ≡ set (predicatesOf q) (r .pd2) (e .pd2)
-    → stateAt s g y o ≡ apply (stateAt s f x p) r (effectIn e)
+    → countsFrom k ≡ set (countsFrom c) (r .pd) (countsOf (s .vl) (e .pd)) → countsFrom l ≡ set (countsFrom k) (r .pd2) (countsOf (s .vl) (e .pd2))
+    → stateAt s g y o l ≡ apply (stateAt s f x p c) r (effectIn e)
 unfolding apply withP withX withFlags
-written s f g x y p q o r e hf hx hq ho =
-    ap (λ (k : Flags). state k y (predicatesOf o)) hf ∙ ap (λ (z : List ℕ). state flags z (predicatesOf o)) hx
-    ∙ ap (λ (z : List Predicate). state flags (set x (r .rd) (e .rd)) z) (ho ∙ ap (λ (z : List Predicate). set z (r .pd2) (e .pd2)) hq) ∙ go (r .flags)
+written s f g x y p q o c k l r e hf hx hq ho hk hl =
+    (λ i. state (hf i) (hx i) ((ho ∙ ap (λ (z : List Predicate). set z (r .pd2) (e .pd2)) hq) i) ((hl ∙ ap (λ (z : List Counts). set z (r .pd2) (countsOf (s .vl) (e .pd2))) hk) i)) ∙ go (r .flags)
   where
-    state : Flags → List ℕ → List Predicate → State
-    state k y z = made (s .vl) (s .level) (s .access) k y z
+    state : Flags → List ℕ → List Predicate → List Counts → State
+    state k y z u = assembled (s .vl) (s .level) (s .access) k y z u
 
-    flags : Flags
-    flags = pick (r .flags) (flagsOf (e .nzcv)) (flagsFrom f)
-
-    go : (b : Bool) → state (pick b (flagsOf (e .nzcv)) (flagsFrom f)) (set x (r .rd) (e .rd)) (set (set (predicatesOf p) (r .pd) (e .pd)) (r .pd2) (e .pd2))
-        ≡ withP (withP (withX (pick b (withFlags (stateAt s f x p) (flagsOf (e .nzcv))) (stateAt s f x p)) (r .rd) (e .rd)) (r .pd) (e .pd)) (r .pd2) (e .pd2)
+    go : (b : Bool)
+        → state (pick b (flagsOf (e .nzcv)) (flagsFrom f)) (set x (r .rd) (e .rd)) (set (set (predicatesOf p) (r .pd) (e .pd)) (r .pd2) (e .pd2))
+        (set (set (countsFrom c) (r .pd) (countsOf (s .vl) (e .pd))) (r .pd2) (countsOf (s .vl) (e .pd2)))
+        ≡ withP (withP (withX (pick b (withFlags (stateAt s f x p c) (flagsOf (e .nzcv))) (stateAt s f x p c)) (r .rd) (e .rd)) (r .pd) (e .pd)) (r .pd2) (e .pd2)
     go true = refl
     go false = refl

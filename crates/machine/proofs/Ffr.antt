@@ -25,7 +25,7 @@ use Rattle.machine.specs.Step.{stepOf}
 use Rattle.machine.proofs.Replies.{exactly-when, refused-step, accepted-untouched}
 
 -- field k of an instruction that has a word is within its bits
-at : (i : Instruction) (k : ℕ) → inRange i ≡ true → k < length (fieldsOf i) → getD (fieldsOf i) k 0 < 2 ^ getD (widths (formOf i .layout)) k 0
+pub at : (i : Instruction) (k : ℕ) → inRange i ≡ true → k < length (fieldsOf i) → getD (fieldsOf i) k 0 < 2 ^ getD (widths (formOf i .layout)) k 0
 at i k h l = field-below (formOf i .layout) (fieldsOf i) k (both (from (formOf i .allowed) (fieldsOf i)) (fits (formOf i .layout) (fieldsOf i)) h .1) l
 
 -- FFR is not one of the two

@@ -9,8 +9,10 @@ use Rattle.predicates.specs.declared.Flags.{Flags}
 use Rattle.predicates.specs.declared.Predicate.{Predicate}
 use Rattle.predicates.specs.Predicate.{allFalse}
 use Rattle.registers.specs.declared.State.{State}
-use Rattle.registers.specs.State.{readX, readP, withX, withP, withFlags}
-use Rattle.registers.proofs.Registers.{Sized, readX-other, readP-other}
+use Rattle.tally.specs.declared.Counts.{Counts}
+use Rattle.tally.specs.Counts.{noCounts}
+use Rattle.registers.specs.State.{readX, readP, readCounts, withX, withP, withFlags}
+use Rattle.registers.proofs.Registers.{Sized, readX-other, readP-other, readCounts-other}
 use Rattle.words.specs.declared.Instruction.{Instruction}
 use Rattle.instructions.specs.declared.operands.Registers.{Registers}
 use Rattle.instructions.specs.Effect.{Effect}
@@ -25,11 +27,12 @@ pub record Beside (s t : State) : Type 0 where
   pub access : t .access ≡ s .access
   pub x : t .x ≡ s .x
   pub p : t .p ≡ s .p
+  pub counts : t .counts ≡ s .counts
 
 pub beside-flags : (s : State) (sets : Bool) (f : Flags) → Beside s (pick sets (withFlags s f) s)
 unfolding withFlags
-beside-flags s true f = record { vl = refl; level = refl; access = refl; x = refl; p = refl }
-beside-flags s false f = record { vl = refl; level = refl; access = refl; x = refl; p = refl }
+beside-flags s true f = record { vl = refl; level = refl; access = refl; x = refl; p = refl; counts = refl }
+beside-flags s false f = record { vl = refl; level = refl; access = refl; x = refl; p = refl; counts = refl }
 
 -- VL, level and access
 pub record SameSettings (s t : State) : Type 0 where
@@ -42,6 +45,7 @@ pub record Untouched (s t : State) (r : Registers) : Type 0 where
   pub settings : SameSettings s t
   pub x : (n : ℕ) → (n ≡ r .rd → ⊥) → readX t n ≡ readX s n
   pub p : (n : ℕ) → (n ≡ r .pd → ⊥) → (n ≡ r .pd2 → ⊥) → readP t n ≡ readP s n
+  pub counts : (n : ℕ) → (n ≡ r .pd → ⊥) → (n ≡ r .pd2 → ⊥) → readCounts t n ≡ readCounts s n
   pub flags : r .flags ≡ false → t .flags ≡ s .flags
 
 module _ (s : State) (r : Registers) (e : Effect) where
@@ -66,12 +70,22 @@ module _ (s : State) (r : Registers) (e : Effect) where
       let t = withX flagged (r .rd) (e .rd) in
       readP-other (withP t (r .pd) (e .pd)) (r .pd2) n (e .pd2) k ∙ readP-other t (r .pd) n (e .pd) h ∙ below-p n
 
+  below-counts : (n : ℕ) → readCounts (withX flagged (r .rd) (e .rd)) n ≡ readCounts s n
+  unfolding withX
+  below-counts n = ap (λ (l : List Counts). getD l n noCounts) (beside-flags s (r .flags) (e .flags) .counts)
+
+  keeps-counts : (n : ℕ) → (n ≡ r .pd → ⊥) → (n ≡ r .pd2 → ⊥) → readCounts (apply s r e) n ≡ readCounts s n
+  unfolding apply
+  keeps-counts n h k =
+      let t = withX flagged (r .rd) (e .rd) in
+      readCounts-other (withP t (r .pd) (e .pd)) (r .pd2) n (e .pd2) k ∙ readCounts-other t (r .pd) n (e .pd) h ∙ below-counts n
+
   keeps-flags : r .flags ≡ false → apply s r e .flags ≡ s .flags
   unfolding apply withX withP
   keeps-flags h = ap (λ (b : Bool). (pick b (withFlags s (e .flags)) s) .flags) h
 
   pub apply-untouched : Untouched s (apply s r e) r
-  apply-untouched = record { settings = keeps-settings; x = keeps-x; p = keeps-p; flags = keeps-flags }
+  apply-untouched = record { settings = keeps-settings; x = keeps-x; p = keeps-p; counts = keeps-counts; flags = keeps-flags }
 
   -- the number of registers never changes
   pub apply-sized : Sized s → Sized (apply s r e)
@@ -81,6 +95,7 @@ module _ (s : State) (r : Registers) (e : Effect) where
       record {
         xs = length-set (flagged .x) (r .rd) (e .rd) ∙ ap (λ (l : List ℕ). length l) (k .x) ∙ h .xs;
         ps = length-set (set (flagged .p) (r .pd) (e .pd)) (r .pd2) (e .pd2) ∙ length-set (flagged .p) (r .pd) (e .pd) ∙ ap (λ (l : List Predicate). length l) (k .p) ∙ h .ps;
+        cs = length-set (set (flagged .counts) (r .pd) _) (r .pd2) _ ∙ length-set (flagged .counts) (r .pd) _ ∙ ap (λ (l : List Counts). length l) (k .counts) ∙ h .cs;
       }
 
 pub untouched : (s : State) (i : Instruction) → Untouched s (executeOf s i) (registersOf i)

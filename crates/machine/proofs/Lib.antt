@@ -7,3 +7,4 @@ pub mod Steps
 pub mod Replies
 pub mod Ffr
 pub mod Examples
+pub mod Counts

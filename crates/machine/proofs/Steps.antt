@@ -16,7 +16,7 @@ use Rattle.replies.specs.Reply.{isDone}
 use Rattle.registers.specs.declared.State.{State}
 use Rattle.registers.specs.declared.parts.Settings.{Settings}
 use Rattle.registers.specs.Legal.{legal}
-use Rattle.registers.specs.Parts.{predicatesOf, stateAt, settingsOf}
+use Rattle.registers.specs.Parts.{predicatesOf, countsFrom, stateAt, settingsOf}
 use Rattle.registers.proofs.PartLaws.{parts-are}
 use Rattle.registers.proofs.Registers.{Sized}
 use Rattle.words.specs.declared.Decoded.{Decoded}
@@ -74,9 +74,9 @@ replied s i q v t r hq hv ht hr =
     ∙ ap (λ (o : Registers). admissionOf i (s .level) (s .access) (accepts i (valuesOf s o))) hq
 
 -- the same where values were read whatever the settings and flags
-pub replied-in : (s : Settings) (f : List Bool) (x : List ℕ) (p : List (List ℕ)) (i : Instruction) (q : Registers) (v : Values) (t : Bool) (r : Reply) → q ≡ registersOf i
-    → ((u : Settings) → (g : List Bool) → v ≡ valuesOf (stateAt u g x p) q) → t ≡ accepts i v → r ≡ admissionOf i (s .level) (s .access) t → r ≡ replyOf (stateAt s f x p) i
-replied-in s f x p i q v t r hq hv ht hr = replied (stateAt s f x p) i q v t r hq (hv s f) ht hr
+pub replied-in : (s : Settings) (f : List Bool) (x : List ℕ) (p c : List (List ℕ)) (i : Instruction) (q : Registers) (v : Values) (t : Bool) (r : Reply) → q ≡ registersOf i
+    → ((u : Settings) → (g : List Bool) → v ≡ valuesOf (stateAt u g x p c) q) → t ≡ accepts i v → r ≡ admissionOf i (s .level) (s .access) t → r ≡ replyOf (stateAt s f x p c) i
+replied-in s f x p c i q v t r hq hv ht hr = replied (stateAt s f x p c) i q v t r hq (hv s f) ht hr
 
 module _ (s : State) (i : Instruction) (r : Reply) (b : Bool) (is : r ≡ replyOf s i) (done : b ≡ isDone r) where
   at-reply : answered r (pick b (executeOf s i) s) ≡ afterWord s (Ours i)
@@ -114,18 +114,18 @@ unfolding stepOf
 step-legal s w e = pick-yes _ _ _ e
 
 -- the same where legality was tested whatever the flags and X registers
-module _ (s : Settings) (f : List Bool) (x : List ℕ) (p : List (List ℕ)) (b : Bool) (is : (g : List Bool) → (y : List ℕ) → b ≡ legal (stateAt s g y p)) where
-  pub in-illegal : (w : ℕ) → not b ≡ true → answered IllegalState (stateAt s f x p) ≡ stepOf (stateAt s f x p) w
-  in-illegal w h = step-illegal (stateAt s f x p) w b (is f x) h
+module _ (s : Settings) (f : List Bool) (x : List ℕ) (p c : List (List ℕ)) (b : Bool) (is : (g : List Bool) → (y : List ℕ) → b ≡ legal (stateAt s g y p c)) where
+  pub in-illegal : (w : ℕ) → not b ≡ true → answered IllegalState (stateAt s f x p c) ≡ stepOf (stateAt s f x p c) w
+  in-illegal w h = step-illegal (stateAt s f x p c) w b (is f x) h
 
-  pub in-goes : (w : ℕ) (t : Stepped) → not b ≡ false → t ≡ afterWord (stateAt s f x p) (decodeOf w) → t ≡ stepOf (stateAt s f x p) w
-  in-goes w t h e = step-goes (stateAt s f x p) w b (is f x) t h e
+  pub in-goes : (w : ℕ) (t : Stepped) → not b ≡ false → t ≡ afterWord (stateAt s f x p c) (decodeOf w) → t ≡ stepOf (stateAt s f x p c) w
+  in-goes w t h e = step-goes (stateAt s f x p c) w b (is f x) t h e
 
-  pub run-illegal : (ws : List ℕ) → not b ≡ true → record { reply = IllegalState; refused = Done; done = 0; state = stateAt s f x p } ≡ runOf (stateAt s f x p) ws
+  pub run-illegal : (ws : List ℕ) → not b ≡ true → record { reply = IllegalState; refused = Done; done = 0; state = stateAt s f x p c } ≡ runOf (stateAt s f x p c) ws
   unfolding runOf
   run-illegal ws h = sym (pick-no _ _ _ (sym (is f x) ∙ not-true b h))
 
-  pub run-begins : (ws : List ℕ) → not b ≡ false → afterWords 0 (stateAt s f x p) ws ≡ runOf (stateAt s f x p) ws
+  pub run-begins : (ws : List ℕ) → not b ≡ false → afterWords 0 (stateAt s f x p c) ws ≡ runOf (stateAt s f x p c) ws
   unfolding runOf
   run-begins ws h = sym (pick-yes _ _ _ (sym (is f x) ∙ not-false b h))
 
@@ -164,12 +164,12 @@ module _ (ws : List ℕ) (s : State) (r : Ran) (done : ℕ) (inv : afterWords do
 
 -- ---- a run of a state by value, over its parts
 
-pub ran : (s t : State) (u : Settings) (ws : List ℕ) (done : ℕ) (reply refused : Reply) (f g : List Bool) (x : List ℕ) (p q : List (List ℕ))
+pub ran : (s t : State) (u : Settings) (ws : List ℕ) (done : ℕ) (reply refused : Reply) (f g : List Bool) (x : List ℕ) (p q c k : List (List ℕ))
     → u ≡ settingsOf s → f ≡ s .flags .n ∷ s .flags .z ∷ s .flags .c ∷ s .flags .v ∷ [] → predicatesOf p ≡ s .p
-    → record { reply = reply; refused = refused; done = done; state = stateAt u g x q } ≡ runOf (stateAt u f (s .x) p) ws
-    → t ≡ stateAt u g x q → record { reply = reply; refused = refused; done = done; state = t } ≡ runOf s ws
-ran s t u ws done reply refused f g x p q hu hf hp h ht =
-    ap (λ (z : State). record { reply = reply; refused = refused; done = done; state = z }) ht ∙ h ∙ ap (λ (z : State). runOf z ws) (parts-are s u f p hu hf hp)
+    → countsFrom c ≡ s .counts → record { reply = reply; refused = refused; done = done; state = stateAt u g x q k } ≡ runOf (stateAt u f (s .x) p c) ws
+    → t ≡ stateAt u g x q k → record { reply = reply; refused = refused; done = done; state = t } ≡ runOf s ws
+ran s t u ws done reply refused f g x p q c k hu hf hp hc h ht =
+    ap (λ (z : State). record { reply = reply; refused = refused; done = done; state = z }) ht ∙ h ∙ ap (λ (z : State). runOf z ws) (parts-are s u f p c hu hf hp hc)
 
 -- ---- a legal state stays legal, refused or not
 
@@ -185,6 +185,25 @@ after-kept s (Ours i) k = go (isDone (replyOf s i))
     go : (b : Bool) → Kept (pick b (executeOf s i) s)
     go true = record { legal-is = execute-legal s i (k .sized) (k .legal-is); sized = execute-sized s i (k .sized) }
     go false = k
+
+pub step-kept : (s : State) (w : ℕ) → Kept s → Kept (stepOf s w .state)
+step-kept s w k = subst (λ (x : Stepped). Kept (x .state)) (sym (step-legal s w (k .legal-is))) (after-kept s (decodeOf w) k)
+
+words-kept : (ws : List ℕ) (done : ℕ) (s : State) → Kept s → Kept (afterWords done s ws .state)
+unfolding afterWords
+words-kept [] done s k = k
+words-kept (w ∷ ws) done s k = go (isDone (t .reply)) (words-kept ws (suc done) (t .state) (after-kept s (decodeOf w) k))
+  where
+    t : Stepped
+    t = afterWord s (decodeOf w)
+
+    go : (b : Bool) → Kept (afterWords (suc done) (t .state) ws .state) → Kept (pick b (afterWords (suc done) (t .state) ws) (record { reply = Done; refused = t .reply; done = done; state = t .state }) .state)
+    go true h = h
+    go false h = after-kept s (decodeOf w) k
+
+pub run-kept : (s : State) (ws : List ℕ) → Kept s → Kept (runOf s ws .state)
+unfolding runOf
+run-kept s ws k = subst (λ (r : Ran). Kept (r .state)) (sym (pick-yes (legal s) _ _ (k .legal-is))) (words-kept ws 0 s k)
 
 -- the same of an answer
 pub kept-on : (s : State) (d : Decoded) (t : Stepped) → Kept s → t ≡ afterWord s d → Kept (t .state)

@@ -70,8 +70,10 @@ impl Machine {
         let mut x = state.x;
         let held = state.p;
         let mut p = registers::parts::words_of(held);
-        let went = engine::run(settings, &mut flags, &mut x, &mut p, words);
-        let next = registers::parts::state_of(settings, flags, x, p);
+        let kept = state.counts;
+        let mut counts = registers::parts::numbers_of(kept);
+        let went = engine::run(settings, &mut flags, &mut x, &mut p, &mut counts, words);
+        let next = registers::parts::state_of(settings, flags, x, p, counts);
         let reply = went.reply;
         let refused = went.refused;
         Ran {
@@ -122,7 +124,15 @@ fn values(state: State, r: Registers) -> Values
     let pg = state.read_p(r.pg);
     let pn = state.read_p(r.pn);
     let pm = state.read_p(r.pm);
-    Values { pg, pn, pm, rn, rm }
+    let counts = state.read_counts(r.pm);
+    Values {
+        pg,
+        pn,
+        pm,
+        counts,
+        rn,
+        rm,
+    }
 }
 
 fn set_flags(state: State, sets: bool, nzcv: u64) -> State

@@ -251,7 +251,7 @@ span-minus k from to =
 -- ---- bits at or above a bound
 
 -- every bit is an element of one bit
-byte-bit : (pl b : ℕ) → b < 256 → bitAt (spanOf 0 0 pl) b ≡ ltb b pl
+pub byte-bit : (pl b : ℕ) → b < 256 → bitAt (spanOf 0 0 pl) b ≡ ltb b pl
 unfolding elementBit
 byte-bit pl b h = span-bit 0 0 pl b h ∙ ap₂ (λ (x y : ℕ). eqb x 0 && between 0 pl y) (mod-one b) (div-one b) ∙ between-from-zero pl b
 

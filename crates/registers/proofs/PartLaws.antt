@@ -2,24 +2,37 @@
 use mathlib.Core.Bool.{Bool, true, false, not}
 use mathlib.Core.List.{List, [], _∷_, _++_}
 use mathlib.Core.Path.{_≡_, refl, sym, ap, ap₂, _∙_}
-use Prim.Native.Nat.{ℕ, zero, suc, _+_, _≤_, _<_}
+use Prim.Native.Nat.{ℕ, zero, suc, _+_, _*_, _%_, _^_, _≤_, _<_, min}
 use native.Mathlib.Numerals.{add-one}
 use native.Mathlib.Nat.{not-suc-le-zero, le-of-suc-le-suc}
+use native.Mathlib.Omega.{arith}
+use lib.Bits.{bitOr, bitXor}
+use lib.Dec.{leb, eqb}
 use lib.ListN.{getD, set, length, take, List·getD-eq-default}
 use lib.Seq.{set-out, take-suc, take-suc-set, take-length}
 use Rattle.bits.specs.Bits.{testBit}
 use Rattle.bits.specs.Choice.{pick}
 use Rattle.bits.specs.Search.{some}
+use Rattle.bits.proofs.Searches.{never, some-cong, some-none}
 use Rattle.predicates.specs.declared.Flags.{Flags}
 use Rattle.predicates.specs.declared.Predicate.{Predicate}
 use Rattle.predicates.specs.Predicate.{allFalse, pack, bitAt, predicateLength, hasBitFrom}
 use Rattle.predicates.specs.PredTest.{flagsOf}
+use Rattle.predicates.proofs.Lengths.{length-quads}
+use Rattle.tally.specs.declared.Counts.{Counts}
+use Rattle.tally.specs.Counts.{countsOf, noCounts, sameCounts}
+use Rattle.tally.specs.declared.Planes.{Planes}
+use Rattle.tally.specs.Planes.{planesIn, sumsOf}
+use Rattle.tally.specs.Tally.{packedOf, countsIn, tallyIn}
+use Rattle.tally.proofs.Same.{packed-test, xor-test, joined-more}
+use Rattle.tally.proofs.Total.{tally-in}
+use Rattle.tally.proofs.Within.{Small, counts-small, packed-back, tally-is}
 use Rattle.registers.specs.declared.State.{State}
 use Rattle.registers.specs.declared.parts.Settings.{Settings}
-use Rattle.registers.specs.State.{made, readP}
-use Rattle.registers.specs.Legal.{settingsAllowed, legal}
-use Rattle.registers.specs.Parts.{predicatesOf, flagsFrom, stateAt, settingsOf}
-use Rattle.registers.proofs.Legality.{allowed, stray-union}
+use Rattle.registers.specs.State.{assembled, readP, readCounts}
+use Rattle.registers.specs.Legal.{settingsAllowed, hasStrayBit, hasWrongCount, legal}
+use Rattle.registers.specs.Parts.{predicatesOf, countsFrom, flagsFrom, stateAt, settingsOf}
+use Rattle.registers.proofs.Legality.{strays, by-counts, settings-has, quads, stray-union}
 
 pub predicates-length : (l : List (List ℕ)) → length (predicatesOf l) ≡ length l
 unfolding predicatesOf
@@ -44,6 +57,37 @@ write-in (w ∷ ws) (suc i) q = ap (λ (r : List Predicate). record { words = w 
 pub write-out : (l : List (List ℕ)) (i : ℕ) (q : Predicate) → length l ≤ i → predicatesOf l ≡ set (predicatesOf l) i q
 write-out l i q h = sym (set-out (predicatesOf l) i q (rw (predicates-length l) h))
 
+-- ---- counts
+
+abbrev pub countsAs : List ℕ → Counts
+countsAs c = record { b = getD c 0 0; h = getD c 1 0; s = getD c 2 0; d = getD c 3 0 }
+
+pub counts-length : (l : List (List ℕ)) → length (countsFrom l) ≡ length l
+unfolding countsFrom
+counts-length [] = refl
+counts-length (c ∷ cs) = ap suc (counts-length cs)
+
+pub counts-in : (l : List (List ℕ)) (i : ℕ) → i < length l → countsAs (getD l i []) ≡ getD (countsFrom l) i noCounts
+unfolding countsFrom
+counts-in [] i h = absurd (not-suc-le-zero h)
+counts-in (c ∷ cs) zero h = refl
+counts-in (c ∷ cs) (suc i) h = counts-in cs i (le-of-suc-le-suc h)
+
+pub counts-out : (l : List (List ℕ)) (i : ℕ) → length l ≤ i → noCounts ≡ getD (countsFrom l) i noCounts
+counts-out l i h = sym (List·getD-eq-default (countsFrom l) noCounts {n = i} (rw (counts-length l) h))
+
+pub counts-write : (l : List (List ℕ)) (i : ℕ) (k : Counts) → countsFrom (set l i (k .b ∷ k .h ∷ k .s ∷ k .d ∷ [])) ≡ set (countsFrom l) i k
+unfolding countsFrom
+counts-write [] i k = refl
+counts-write (c ∷ cs) zero k = refl
+counts-write (c ∷ cs) (suc i) k = ap (λ (r : List Counts). countsAs c ∷ r) (counts-write cs i k)
+
+pub counts-written : (l : List (List ℕ)) (i : ℕ) (k e : Counts) → k ≡ e → countsFrom (set l i (k .b ∷ k .h ∷ k .s ∷ k .d ∷ [])) ≡ set (countsFrom l) i e
+counts-written l i k e h = counts-write l i k ∙ ap (set (countsFrom l) i) h
+
+pub counts-write-out : (l : List (List ℕ)) (i : ℕ) (k : Counts) → length l ≤ i → countsFrom l ≡ set (countsFrom l) i k
+counts-write-out l i k h = sym (set-out (countsFrom l) i k (rw (counts-length l) h))
+
 -- ---- flags, set or kept
 
 pub flags-kept : (l : List Bool) (sets : Bool) (f : ℕ) → sets ≡ false → flagsFrom l ≡ pick sets (flagsOf f) (flagsFrom l)
@@ -53,11 +97,56 @@ pub flags-written : (l : List Bool) (sets : Bool) (f : ℕ) → sets ≡ true �
 unfolding flagsOf
 flags-written l sets f h = sym (ap (λ (b : Bool). pick b (flagsOf f) (flagsFrom l)) h)
 
--- ---- legality, from the union of the predicates
+-- ---- legality, from the union of the predicates and from the counts
 
-pub by-union : (s : State) (b r : Bool) (u : Predicate) (pl : ℕ) → b ≡ settingsAllowed (s .vl) (s .level) → not b ≡ false → u ≡ pack (λ k. some (λ i. bitAt (readP s i) k) 17) → pl ≡ predicateLength (s .vl)
-    → r ≡ not (hasBitFrom pl u) → r ≡ legal s
-by-union s b r u pl hb n hu hp hr = hr ∙ ap not (ap (λ (k : ℕ). hasBitFrom k u) hp ∙ stray-union s u hu) ∙ allowed s b hb n
+stray-is : (s : State) (w : Bool) (u : Predicate) (pl : ℕ) → u ≡ pack (λ k. some (λ i. bitAt (readP s i) k) (length (s .p))) → pl ≡ predicateLength (s .vl) → w ≡ not (hasBitFrom pl u) → w ≡ not (hasStrayBit s)
+stray-is s w u pl hu hp hw = hw ∙ ap not (ap (λ (k : ℕ). hasBitFrom k u) hp ∙ stray-union s u hu)
+
+pub by-strays : (s : State) (b w : Bool) (u : Predicate) (pl : ℕ) → b ≡ settingsAllowed (s .vl) (s .level) → not b ≡ false → u ≡ pack (λ k. some (λ i. bitAt (readP s i) k) (length (s .p)))
+    → pl ≡ predicateLength (s .vl) → w ≡ not (hasBitFrom pl u) → not w ≡ true → false ≡ legal s
+by-strays s b w u pl hb n hu hp hw m = strays s b w hb n (stray-is s w u pl hu hp hw) m
+
+-- what the code compares of a register
+abbrev pub unlike : Bool → List Predicate → List Counts → ℕ → Bool
+unlike low p c i = not (sameCounts (countsIn (tallyIn low (getD p i allFalse))) (getD c i noCounts))
+
+-- a predicate and its counts, compared as numbers
+pub differs : (low by : Bool) (q : Predicate) (k : Counts) (y : Planes) (t n r : ℕ) → low ≡ by → y ≡ planesIn by q → t ≡ sumsOf y → n ≡ packedOf k → t < 2 ^ 64 → Small k → r ≡ bitXor t n
+    → eqb r 0 ≡ sameCounts (countsIn (tallyIn low q)) k
+differs low by q k y t n r hl hy ht hn l z hr =
+    ap (λ (x : ℕ). eqb x 0) hr ∙ xor-test t n ∙ ap (eqb t) hn ∙ packed-test t k l z ∙ ap (λ (x : ℕ). sameCounts (countsIn x) k) (tally-in by q y t hy ht ∙ sym (ap (λ (b : Bool). tallyIn b q) hl))
+
+-- one register more
+pub agree-more : (low : Bool) (p : List Predicate) (c : List Counts) (i bad x r : ℕ) (q : Predicate) (k : Counts) → q ≡ getD p i allFalse → k ≡ getD c i noCounts
+    → eqb x 0 ≡ sameCounts (countsIn (tallyIn low q)) k → eqb bad 0 ≡ not (some (unlike low p c) i) → r ≡ bitOr bad x → eqb r 0 ≡ not (some (unlike low p c) (i + 1))
+agree-more low p c i bad x r q k hq hk hx e hr =
+    joined-more (unlike low p c) i bad x r (ap not (hx ∙ ap₂ (λ (o : Predicate) (j : Counts). sameCounts (countsIn (tallyIn low o)) j) hq hk)) e hr
+
+pub by-tallies : (s : State) (b w r : Bool) (u : Predicate) (pl : ℕ) → b ≡ settingsAllowed (s .vl) (s .level) → not b ≡ false → u ≡ pack (λ k. some (λ i. bitAt (readP s i) k) (length (s .p)))
+    → pl ≡ predicateLength (s .vl) → w ≡ not (hasBitFrom pl u) → not w ≡ false → r ≡ not (some (unlike (leb pl 64) (s .p) (s .counts)) (min (length (s .p)) (length (s .counts)))) → r ≡ legal s
+unfolding hasStrayBit hasWrongCount
+by-tallies s b w r u pl hb n hu hp hw m hr =
+    let none : hasStrayBit s ≡ false = unstray w (hasStrayBit s) (stray-is s w u pl hu hp hw) m in
+    let (len, level) = settings-has (s .vl) (s .level) (allowed-is b hb n) in
+    let (q, e, lo, hi) = quads (s .vl) len in
+    let whole : predicateLength (s .vl) % 8 ≡ 0 = ap (λ (v : ℕ). predicateLength v % 8) e ∙ ap (λ (v : ℕ). v % 8) (length-quads q hi) ∙ eight q in
+    hr
+    ∙ ap not (some-cong _ _ (min (length (s .p)) (length (s .counts))) (λ i l. ap (λ (k : Counts). not (sameCounts k (readCounts s i))) (
+    ap countsIn (tally-is (readP s i) (s .vl) (leb pl 64) whole (some-none _ (length (s .p)) none i (omega arith)) (ap (λ (k : ℕ). leb k 64) hp))
+    ∙ packed-back (countsOf (s .vl) (readP s i)) (counts-small (s .vl) (readP s i)))))
+    ∙ by-counts s b hb n none
+  where
+    unstray : (w t : Bool) → w ≡ not t → not w ≡ false → t ≡ false
+    unstray true true e h = e
+    unstray true false e h = refl
+    unstray false t e h = never refl h
+
+    allowed-is : (b : Bool) → b ≡ settingsAllowed (s .vl) (s .level) → not b ≡ false → settingsAllowed (s .vl) (s .level) ≡ true
+    allowed-is true e h = sym e
+    allowed-is false e h = never refl h
+
+    eight : (q : ℕ) → 16 * q % 8 ≡ 0
+    eight q = omega arith
 
 -- ---- predicates copied one by one
 
@@ -73,14 +162,18 @@ pub words-more : (r : List (List ℕ)) (p : List Predicate) (i : ℕ) (d : Predi
     → take (i + 1) (predicatesOf (set r i (getD p i d .words))) ≡ take (i + 1) p
 words-more r p i d h k e = ap (take (i + 1)) (write-in r i (getD p i d)) ∙ copied-more (predicatesOf r) p i d (getD p i d) (rw (predicates-length r) h) k refl e
 
+pub numbers-more : (r : List (List ℕ)) (c : List Counts) (i : ℕ) (k : Counts) → i < length r → i < length c → k ≡ getD c i noCounts → take i (countsFrom r) ≡ take i c
+    → take (i + 1) (countsFrom (set r i (k .b ∷ k .h ∷ k .s ∷ k .d ∷ []))) ≡ take (i + 1) c
+numbers-more r c i k h l hk e = ap (take (i + 1)) (counts-write r i k) ∙ copied-more (countsFrom r) c i noCounts k (rw (counts-length r) h) l hk e
+
 -- ---- the parts of a state make it again
 
-pub parts-are : (s : State) (u : Settings) (f : List Bool) (p : List (List ℕ)) → u ≡ settingsOf s → f ≡ s .flags .n ∷ s .flags .z ∷ s .flags .c ∷ s .flags .v ∷ [] → predicatesOf p ≡ s .p
-    → stateAt u f (s .x) p ≡ s
-parts-are s u f p hu hf hp =
-    ap (λ (v : Settings). stateAt v f (s .x) p) hu ∙ ap (λ (b : List Bool). stateAt (settingsOf s) b (s .x) p) hf
-    ∙ ap (made (s .vl) (s .level) (s .access) (s .flags) (s .x)) hp
+pub parts-are : (s : State) (u : Settings) (f : List Bool) (p c : List (List ℕ)) → u ≡ settingsOf s → f ≡ s .flags .n ∷ s .flags .z ∷ s .flags .c ∷ s .flags .v ∷ [] → predicatesOf p ≡ s .p
+    → countsFrom c ≡ s .counts → stateAt u f (s .x) p c ≡ s
+parts-are s u f p c hu hf hp hc =
+    ap (λ (v : Settings). stateAt v f (s .x) p c) hu ∙ ap (λ (b : List Bool). stateAt (settingsOf s) b (s .x) p c) hf
+    ∙ ap₂ (assembled (s .vl) (s .level) (s .access) (s .flags) (s .x)) hp hc
 
-pub state-made : (u : Settings) (f : List Bool) (g : Flags) (x : List ℕ) (p : List (List ℕ)) (q : List Predicate) (s : State) → g ≡ flagsFrom f → q ≡ predicatesOf p
-    → s ≡ made (u .vl) (u .level) (u .access) g x q → s ≡ stateAt u f x p
-state-made u f g x p q s hg hq h = h ∙ ap₂ (λ (k : Flags) (r : List Predicate). made (u .vl) (u .level) (u .access) k x r) hg hq
+pub state-made : (u : Settings) (f : List Bool) (g : Flags) (x : List ℕ) (p c : List (List ℕ)) (q : List Predicate) (k : List Counts) → g ≡ flagsFrom f → q ≡ predicatesOf p
+    → k ≡ countsFrom c → assembled (u .vl) (u .level) (u .access) g x q k ≡ stateAt u f x p c
+state-made u f g x p c q k hg hq hk = λ i. assembled (u .vl) (u .level) (u .access) (hg i) x (hq i) (hk i)

@@ -1,12 +1,10 @@
 // The register state: reads and writes, and which of its values are legal.
 // FFR, the first-fault register, is predicate register 16, after P0 to P15: reads, writes and legality know it as they know the others. No field of a word can name it.
+// Beside each of P0 to P15 its number of true elements at each size is kept: a write of a predicate works them out, and nothing else changes them.
 // X31, and any number past the last register, reads as zero or all false, and a write to it vanishes. A state is legal unless its vector length is none of the five, its level is above 3,
-// or a predicate has a bit at or above VL/8: reply 4 refuses it. State's methods take the state by value and return it; `parts` has the same over registers lent one by one.
+// a predicate has a bit at or above VL/8, or a count is wrong: reply 4 refuses it. State's methods take the state by value and return it; `parts` has the same over registers lent one by one.
 ghost use mathlib.Core.Path.{_≡_};
-ghost use Rattle.bits.specs.Search.{some};
-ghost use Rattle.predicates.specs.Predicate.{bitAt, pack};
-ghost use lib.ListN.{getD};
-ghost use Rattle.registers.specs.State.{allFalse, registerCount, made, readX, readP, withX, withP, withFlags};
+ghost use Rattle.registers.specs.State.{allCounts, made, counted, readX, readP, readCounts, withX, withP, withFlags};
 ghost use Rattle.registers.specs.Parts.{settingsOf};
 ghost use Rattle.registers.specs.Legal.{isLength, settingsAllowed, legal};
 
@@ -15,11 +13,14 @@ pub mod parts;
 use parts::Settings;
 use predicates::Flags;
 use predicates::Predicate;
+use tally::Counts;
 
 // The number of FFR among the predicate registers.
 pub const FFR: u8 = 16;
 // How many predicate registers there are, FFR the last.
 pub const PREDICATES: usize = 17;
+// How many of them have counts beside them: all but FFR.
+pub const COUNTED: usize = 16;
 
 #[repr(C)]
 pub struct State {
@@ -32,10 +33,12 @@ pub struct State {
     pub x: [u64; 31],
     // P0 to P15, then FFR.
     pub p: [Predicate; PREDICATES],
+    // The true elements of P0 to P15.
+    pub counts: [Counts; COUNTED],
 }
 
 impl State {
-    // A state of these settings and registers; nothing is tested.
+    // A state of these settings and registers, its counts worked out; nothing is tested.
     pub fn new(
         vl: u64,
         level: u8,
@@ -53,7 +56,18 @@ impl State {
             flags,
             x,
             p,
+            counts: all_counts(p, vl),
         }
+    }
+
+    // The state with its counts worked out, and all else as it is.
+    pub fn counted(self) -> State
+        ensures { λ s. ⌜ s ≡ counted self ⌝ }
+    {
+        let flags = self.flags;
+        let x = self.x;
+        let p = self.p;
+        State::new(self.vl, self.level, self.access, flags, x, p)
     }
 
     // VL, level and access.
@@ -86,6 +100,17 @@ impl State {
         Predicate::none()
     }
 
+    // The counts beside P0 to P15; number 16 and above read as zeros.
+    pub fn read_counts(self, r: u64) -> Counts
+        ensures { λ c. ⌜ c ≡ readCounts self r ⌝ }
+    {
+        let i = r as usize;
+        if i < COUNTED {
+            return self.counts[i];
+        }
+        Counts::none()
+    }
+
     // The state with Xr anew; a write past X30 vanishes.
     pub fn with_x(mut self, r: u64, v: u64) -> State
         ensures { λ s. ⌜ s ≡ withX self r v ⌝ }
@@ -97,13 +122,17 @@ impl State {
         self
     }
 
-    // The state with Pr anew, or FFR by number 16; a write past it vanishes.
+    // The state with Pr and its counts anew, or FFR by number 16; a write past it vanishes.
     pub fn with_p(mut self, r: u64, q: Predicate) -> State
         ensures { λ s. ⌜ s ≡ withP self r q ⌝ }
     {
         let i = r as usize;
-        if i < PREDICATES {
-            self.p[i] = q;
+        if PREDICATES <= i {
+            return self;
+        }
+        self.p[i] = q;
+        if i < COUNTED {
+            self.counts[i] = Counts::of(q, self.vl);
         }
         self
     }
@@ -116,15 +145,16 @@ impl State {
         self
     }
 
-    // Whether reply 4 does not refuse the state. The predicates are joined first, so that one test serves all.
+    // Whether reply 4 does not refuse the state.
     pub fn is_legal(self) -> bool
         ensures { λ r. ⌜ r ≡ legal self ⌝ }
     {
-        if !settings_allowed(self.vl, self.level) {
-            return false;
-        }
-        let p = self.p;
-        union(p).is_within(predicates::predicate_length(self.vl))
+        let settings = self.settings();
+        let held = self.p;
+        let p = parts::words_of(held);
+        let kept = self.counts;
+        let counts = parts::numbers_of(kept);
+        parts::is_legal(settings, &p, &counts)
     }
 }
 
@@ -157,16 +187,21 @@ pub fn settings_allowed(vl: u64, level: u8) -> bool
     level <= 3
 }
 
-// The bits that any of the predicates has.
-fn union(p: [Predicate; PREDICATES]) -> Predicate
-    ensures { λ q. ⌜ q ≡ pack (λ b. some (λ r. bitAt (getD p r allFalse) b) registerCount) ⌝ }
+// The counts of P0 to P15.
+fn all_counts(p: [Predicate; PREDICATES], vl: u64) -> [Counts; COUNTED]
+    ensures { λ r. ⌜ r ≡ allCounts vl p ⌝ }
 {
-    let mut q = Predicate::none();
+    let mut r = [Counts {
+        b: 0,
+        h: 0,
+        s: 0,
+        d: 0,
+    }; COUNTED];
     let mut i = 0;
-    while i < PREDICATES {
-        let next = p[i];
-        q = next.or(q);
+    while i < COUNTED {
+        let q = p[i];
+        r[i] = Counts::of(q, vl);
         i += 1;
     }
-    q
+    r
 }

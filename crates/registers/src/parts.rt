@@ -1,20 +1,24 @@
 // The parts of a register state, each lent: reads and writes where they stand.
+use super::COUNTED;
 use super::PREDICATES;
 use super::State;
 use predicates::Flags;
 use predicates::Predicate;
+use tally::Counts;
 ghost use mathlib.Core.Path.{_≡_};
-ghost use mathlib.Core.Bool.{Bool};
+ghost use mathlib.Core.Bool.{Bool, not};
 ghost use mathlib.Core.List.{List, [], _∷_};
-ghost use Prim.Native.Nat.{ℕ};
-ghost use lib.ListN.{getD, set};
+ghost use Prim.Native.Nat.{ℕ, min};
+ghost use lib.Dec.{eqb};
+ghost use lib.ListN.{getD, set, length};
 ghost use Rattle.bits.specs.Choice.{pick};
 ghost use Rattle.bits.specs.Search.{some};
 ghost use Rattle.predicates.specs.Predicate.{bitAt, pack, allFalse};
 ghost use Rattle.predicates.specs.PredTest.{flagsOf};
+ghost use Rattle.tally.specs.Counts.{noCounts, countsOf, sameCounts};
+ghost use Rattle.tally.specs.Tally.{countsIn, tallyIn};
 ghost use Rattle.registers.specs.Legal.{legal};
-ghost use Rattle.registers.specs.State.{registerCount};
-ghost use Rattle.registers.specs.Parts.{predicatesOf, flagsFrom, stateAt};
+ghost use Rattle.registers.specs.Parts.{predicatesOf, countsFrom, flagsFrom, stateAt};
 
 // What no instruction changes.
 #[repr(C)]
@@ -56,8 +60,38 @@ pub fn p_at(p: &[[u64; 4]], r: u64) -> Predicate
     Predicate::none()
 }
 
-// A write past the last register vanishes.
-pub fn put_p(p: &mut [[u64; 4]], r: u64, q: Predicate)
+// A number past the last register reads as zeros.
+pub fn counts_at(counts: &[[u16; 4]], r: u64) -> Counts
+    ensures { λ c. ⌜ c ≡ getD (countsFrom (now (counts .entry))) r noCounts ⌝ }
+{
+    let i = r as usize;
+    if i < counts.len() {
+        let c = counts[i];
+        return Counts {
+            b: c[0],
+            h: c[1],
+            s: c[2],
+            d: c[3],
+        };
+    }
+    Counts::none()
+}
+
+// A predicate, with its counts beside it; a write past the last register vanishes, and so do the counts of FFR.
+pub fn put_p(p: &mut [[u64; 4]], counts: &mut [[u16; 4]], vl: u64, r: u64, q: Predicate)
+    ensures { λ _. ⌜ predicatesOf (now (p .exit)) ≡ set (predicatesOf (now (p .entry))) r q ⌝ }
+    ensures { λ _. ⌜ countsFrom (now (counts .exit)) ≡ set (countsFrom (now (counts .entry))) r (countsOf vl q) ⌝ }
+{
+    put_words(p, r, q);
+    let i = r as usize;
+    if i < counts.len() {
+        let c = Counts::of(q, vl);
+        let numbers = [c.b, c.h, c.s, c.d];
+        counts[i] = numbers;
+    }
+}
+
+fn put_words(p: &mut [[u64; 4]], r: u64, q: Predicate)
     ensures { λ _. ⌜ predicatesOf (now (p .exit)) ≡ set (predicatesOf (now (p .entry))) r q ⌝ }
 {
     let i = r as usize;
@@ -84,26 +118,72 @@ pub fn put_flags(flags: &mut [bool; 4], sets: bool, nzcv: u64)
 
 // The bits that any of the predicates has.
 fn union(p: &[[u64; 4]]) -> Predicate
-    ensures { λ q. ⌜ q ≡ pack (λ b. some (λ r. bitAt (getD (predicatesOf (now (p .entry))) r allFalse) b) registerCount) ⌝ }
+    ensures { λ q. ⌜ q ≡ pack (λ b. some (λ r. bitAt (getD (predicatesOf (now (p .entry))) r allFalse) b) (length (predicatesOf (now (p .entry))))) ⌝ }
 {
     let mut q = Predicate::none();
     let mut i = 0;
-    while i < PREDICATES as u64 {
-        let one = p_at(p, i);
+    while i < p.len() {
+        let words = p[i];
+        let one = Predicate { words };
         q = one.or(q);
         i += 1;
     }
     q
 }
 
-// Whether reply 4 does not refuse a state of these settings and predicates, whatever its flags and X registers.
-pub fn is_legal(settings: Settings, p: &[[u64; 4]]) -> bool
-    ensures { λ r. ⌜ ((f : List Bool) → (x : List ℕ) → r ≡ legal (stateAt settings f x (now (p .entry)))) ⌝ }
+// The smaller of two.
+fn least(m: usize, n: usize) -> usize
+    ensures { λ r. ⌜ r ≡ min m n ⌝ }
+{
+    if m < n { m } else { n }
+}
+
+// 0 exactly if the counts are those of a predicate; `low` counts its first word alone.
+fn difference(q: Predicate, c: Counts, low: bool) -> u64
+    ensures { λ r. ⌜ eqb r 0 ≡ sameCounts (countsIn (tallyIn low q)) c ⌝ }
+{
+    if low {
+        return tally::tally_in(tally::first_planes(q)) ^ c.packed();
+    }
+    tally::tally_in(tally::planes_of(q)) ^ c.packed()
+}
+
+// Whether the counts are those of the predicates that they stand beside. No test in the loop depends on a register, so that it is compiled to two registers at a time.
+fn counts_agree(p: &[[u64; 4]], counts: &[[u16; 4]], low: bool) -> bool
+    ensures { λ r. ⌜ r ≡ not (some (λ i. not (sameCounts (countsIn (tallyIn low (getD (predicatesOf (now (p .entry))) i allFalse))) (getD (countsFrom (now (counts .entry))) i noCounts)))
+        (min (length (predicatesOf (now (p .entry)))) (length (countsFrom (now (counts .entry)))))) ⌝ }
+{
+    let n = least(p.len(), counts.len());
+    let mut bad = 0;
+    let mut i = 0;
+    while i < n {
+        let words = p[i];
+        let c = counts[i];
+        let kept = Counts {
+            b: c[0],
+            h: c[1],
+            s: c[2],
+            d: c[3],
+        };
+        let q = Predicate { words };
+        bad = bad | difference(q, kept, low);
+        i += 1;
+    }
+    bad == 0
+}
+
+// Whether reply 4 does not refuse a state of these settings, predicates and counts, whatever its flags and X registers. The predicates are joined first, so that one test of stray bits serves all.
+pub fn is_legal(settings: Settings, p: &[[u64; 4]], counts: &[[u16; 4]]) -> bool
+    ensures { λ r. ⌜ ((f : List Bool) → (x : List ℕ) → r ≡ legal (stateAt settings f x (now (p .entry)) (now (counts .entry)))) ⌝ }
 {
     if !super::settings_allowed(settings.vl, settings.level) {
         return false;
     }
-    union(p).is_within(predicates::predicate_length(settings.vl))
+    let pl = predicates::predicate_length(settings.vl);
+    if !union(p).is_within(pl) {
+        return false;
+    }
+    counts_agree(p, counts, pl <= 64)
 }
 
 // Each predicate by its words.
@@ -135,6 +215,45 @@ pub fn predicates_of(p: [[u64; 4]; PREDICATES]) -> [Predicate; PREDICATES]
     r
 }
 
+// Each register's counts, as those of B, H, S and D.
+pub fn numbers_of(counts: [Counts; COUNTED]) -> [[u16; 4]; COUNTED]
+    ensures { λ r. ⌜ countsFrom r ≡ counts ⌝ }
+{
+    let mut r = [[0u16; 4]; COUNTED];
+    let mut i = 0;
+    while i < COUNTED {
+        let c = counts[i];
+        let numbers = [c.b, c.h, c.s, c.d];
+        r[i] = numbers;
+        i += 1;
+    }
+    r
+}
+
+// The counts of these numbers.
+pub fn counts_of(counts: [[u16; 4]; COUNTED]) -> [Counts; COUNTED]
+    ensures { λ r. ⌜ r ≡ countsFrom counts ⌝ }
+{
+    let mut r = [Counts {
+        b: 0,
+        h: 0,
+        s: 0,
+        d: 0,
+    }; COUNTED];
+    let mut i = 0;
+    while i < COUNTED {
+        let c = counts[i];
+        r[i] = Counts {
+            b: c[0],
+            h: c[1],
+            s: c[2],
+            d: c[3],
+        };
+        i += 1;
+    }
+    r
+}
+
 // N, Z, C and V.
 pub fn bits_of_flags(flags: Flags) -> [bool; 4]
     ensures { λ r. ⌜ r ≡ flags .n ∷ flags .z ∷ flags .c ∷ flags .v ∷ [] ⌝ }
@@ -160,15 +279,17 @@ pub fn state_of(
     flags: [bool; 4],
     x: [u64; 31],
     p: [[u64; 4]; PREDICATES],
+    counts: [[u16; 4]; COUNTED],
 ) -> State
-    ensures { λ s. ⌜ s ≡ stateAt settings flags x p ⌝ }
+    ensures { λ s. ⌜ s ≡ stateAt settings flags x p counts ⌝ }
 {
-    State::new(
-        settings.vl,
-        settings.level,
-        settings.access,
-        flags_of(flags),
+    State {
+        vl: settings.vl,
+        level: settings.level,
+        access: settings.access,
+        flags: flags_of(flags),
         x,
-        predicates_of(p),
-    )
+        p: predicates_of(p),
+        counts: counts_of(counts),
+    }
 }

@@ -13,7 +13,7 @@ use Rattle.replies.specs.declared.Reply.{Reply}
 use Rattle.replies.specs.Reply.{numberOf, isDone}
 use Rattle.registers.specs.declared.State.{State}
 use Rattle.registers.specs.declared.parts.Settings.{Settings}
-use Rattle.registers.specs.Parts.{predicatesOf, stateAt, settingsOf}
+use Rattle.registers.specs.Parts.{predicatesOf, countsFrom, stateAt, settingsOf}
 use Rattle.registers.proofs.PartLaws.{parts-are}
 use Rattle.machine.specs.declared.Stepped.{Stepped}
 use Rattle.machine.specs.Step.{answered, stepOf}
@@ -72,9 +72,9 @@ module _ (ws : List ℕ) (s : State) (done at : ℕ) (out : List ℕ) (all : Lis
     stopped end last h e l = last-put all 0 out₀ (endLine done) next result end last e l (subst (λ (x : List (List ℕ)). Same x next result all 0 out₀) (pick-no b _ _ (not-true b h)) put)
 
 -- the lines from a state's parts are those of the state
-pub from-parts : (s : State) (u : Settings) (ws : List ℕ) (f : List Bool) (p : List (List ℕ)) (out last : List ℕ) (end : ℕ) → u ≡ settingsOf s → f ≡ s .flags .n ∷ s .flags .z ∷ s .flags .c ∷ s .flags .v ∷ []
-    → predicatesOf p ≡ s .p
-    → (end ≡ afterAll (linesOf (stateAt u f (s .x) p) 0 ws) 0 (length out)) × (last ≡ placedAll (linesOf (stateAt u f (s .x) p) 0 ws) 0 out)
+pub from-parts : (s : State) (u : Settings) (ws : List ℕ) (f : List Bool) (p c : List (List ℕ)) (out last : List ℕ) (end : ℕ) → u ≡ settingsOf s → f ≡ s .flags .n ∷ s .flags .z ∷ s .flags .c ∷ s .flags .v ∷ []
+    → predicatesOf p ≡ s .p → countsFrom c ≡ s .counts
+    → (end ≡ afterAll (linesOf (stateAt u f (s .x) p c) 0 ws) 0 (length out)) × (last ≡ placedAll (linesOf (stateAt u f (s .x) p c) 0 ws) 0 out)
     → (end ≡ afterAll (linesOf s 0 ws) 0 (length out)) × (last ≡ placedAll (linesOf s 0 ws) 0 out)
-from-parts s u ws f p out last end hu hf hp h =
-    subst (λ (t : State). (end ≡ afterAll (linesOf t 0 ws) 0 (length out)) × (last ≡ placedAll (linesOf t 0 ws) 0 out)) (parts-are s u f p hu hf hp) h
+from-parts s u ws f p c out last end hu hf hp hc h =
+    subst (λ (t : State). (end ≡ afterAll (linesOf t 0 ws) 0 (length out)) × (last ≡ placedAll (linesOf t 0 ws) 0 out)) (parts-are s u f p c hu hf hp hc) h

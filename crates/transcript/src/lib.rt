@@ -35,11 +35,13 @@ fn word_lines(state: State, words: &[u32], out: &mut [u8]) -> usize
     let mut x = state.x;
     let held = state.p;
     let mut p = registers::parts::words_of(held);
+    let kept = state.counts;
+    let mut counts = registers::parts::numbers_of(kept);
     let mut at = 0;
     let mut done = 0;
     while done < words.len() {
         let word = words[done];
-        let reply = machine::engine::step(settings, &mut flags, &mut x, &mut p, word);
+        let reply = machine::engine::step(settings, &mut flags, &mut x, &mut p, &mut counts, word);
         let after = registers::parts::flags_of(flags);
         at = report::word_line(done as u32, word, reply.number(), after, at, out);
         if !reply.is_done() {

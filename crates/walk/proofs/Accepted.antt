@@ -40,6 +40,7 @@ not-false false e = sym e
 pub record Typed (s : State) : Type 0 where
   pub xs : length (s .x) ≡ 31
   pub ps : length (s .p) ≡ 17
+  pub cs : length (s .counts) ≡ 16
   pub fits : (i : ℕ) → readX s i < 2 ^ 64
 
 pub x-fits : (s : State) → ((i : ℕ) → Fits w64 (getD (s .x) i 0)) → (i : ℕ) → readX s i < 2 ^ 64
@@ -55,6 +56,8 @@ pub record Within (size : Size) (n m d k : ℕ) (s : State) (l : List ℕ) : Typ
   pub other-p : d ≡ k → ⊥
   pub xs : length (s .x) ≡ 31
   pub ps : length (s .p) ≡ 17
+  pub cs : length (s .counts) ≡ 16
+  pub ok : legal s ≡ true
   pub lanes : 0 < elements (s .vl) size
   pub start-fits : readX s n < 2 ^ 64
   pub limit-fits : readX s m < 2 ^ 64
@@ -101,6 +104,8 @@ accepted-within size n m d k s l typed e =
       other-p = eqb-false d k (nm .1);
       xs = typed .xs;
       ps = typed .ps;
+      cs = typed .cs;
+      ok = not-false (legal s) (a .0);
       lanes = lanes-there s (sizeOf size) (not-false (legal s) (a .0));
       start-fits = typed .fits n;
       limit-fits = typed .fits m;

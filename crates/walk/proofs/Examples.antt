@@ -14,8 +14,10 @@ use Rattle.predicates.specs.PredTest.{atLowest, atHighest, predTest, nzcv, flag
 use Rattle.predicates.specs.Predicate.{bitAt, pack, active, spread, elements, predicateLength, hasBitFrom, allFalse}
 use Rattle.replies.specs.declared.Reply.the-variants.{Done, ListTooShort}
 use Rattle.registers.specs.declared.State.{State}
-use Rattle.registers.specs.Legal.{isLength, hasStrayBit, illegal}
-use Rattle.registers.specs.State.{readX, withX, withP, withFlags}
+use Rattle.registers.specs.Legal.{isLength, hasStrayBit, hasWrongCount, illegal}
+use Rattle.tally.specs.Counts.{countsOf, sameCounts}
+use Rattle.registers.specs.State.{allCounts, made, readX, withX, withP, withFlags}
+use Rattle.registers.proofs.Registers.{all-length}
 use Rattle.machine.specs.Execute.{apply, executeOf}
 use Rattle.instructions.specs.Counts.{incDecOf}
 use Rattle.instructions.specs.Instructions.{computeOf}
@@ -30,22 +32,15 @@ use Rattle.walk.proofs.Lengths.{Wrote, two-lengths}
 
 -- level 1, access on, X1 and X2 as given, all else zero
 abbrev pub start : ℕ → ℕ → ℕ → State
-start vl x1 x2 = record {
-  vl = vl;
-  level = 1;
-  access = true;
-  flags = flagsOf 0;
-  x = set (set (replicate 31 0) 1 x1) 2 x2;
-  p = replicate 17 allFalse;
-}
+start vl x1 x2 = made vl 1 true (flagsOf 0) (set (set (replicate 31 0) 1 x1) 2 x2) (replicate 17 allFalse)
 
 -- bytes, X1 to X2, lanes P0, cursor P1, at least 37 places: nothing is refused
 pub accepted-128 : (places : ℕ) → 37 ≤ places → refusalOf 0 1 2 0 1 (start 128 5 42) places ≡ Done
-unfolding flagsOf refusalOf badRegisters illegal isLength hasStrayBit some hasBitFrom predicateLength bitAt pack number testBit
+unfolding flagsOf refusalOf badRegisters illegal isLength hasStrayBit hasWrongCount sameCounts allCounts countsOf count active elements some hasBitFrom predicateLength bitAt pack number testBit
 accepted-128 places h = ap (λ (b : Bool). pick b ListTooShort Done) (le-ltb places 37 h)
 
 pub accepted-512 : (places : ℕ) → 37 ≤ places → refusalOf 0 1 2 0 1 (start 512 5 42) places ≡ Done
-unfolding flagsOf refusalOf badRegisters illegal isLength hasStrayBit some hasBitFrom predicateLength bitAt pack number testBit
+unfolding flagsOf refusalOf badRegisters illegal isLength hasStrayBit hasWrongCount sameCounts allCounts countsOf count active elements some hasBitFrom predicateLength bitAt pack number testBit
 accepted-512 places h = ap (λ (b : Bool). pick b ListTooShort Done) (le-ltb places 37 h)
 
 -- 37 + 3 · 3 + 2 instructions with 16 lanes, 37 + 3 + 2 with 64
@@ -63,7 +58,7 @@ zeros (suc n) zero = refl
 zeros (suc n) (suc i) = zeros n i
 
 typed : (vl : ℕ) → Typed (start vl 5 42)
-typed vl = record { xs = refl; ps = refl; fits = fits }
+typed vl = record { xs = refl; ps = refl; cs = all-length vl (replicate 17 allFalse) refl; fits = fits }
   where
     fits : (i : ℕ) → readX (start vl 5 42) i < 2 ^ 64
     fits zero = omega arith
@@ -86,6 +81,6 @@ module _ (l : List ℕ) (room : 37 ≤ length l) where
 
 -- doublewords from 5 to 8 with 2 lanes: 3 + 3 · 2 + 2 instructions
 pub walked-whole : plainWalk Sz.D 1 2 0 1 11 (start 128 5 8) (0 ∷ 0 ∷ 0 ∷ 7 ∷ []) .list ≡ 5 ∷ 6 ∷ 7 ∷ 7 ∷ []
-unfolding run positionAt executeOf computeOf whileOneOf pnextOf incDecOf apply withX withP withFlags flagsOf nzcv predTest atLowest atHighest
+unfolding run positionAt executeOf computeOf whileOneOf pnextOf incDecOf apply withX withP allCounts countsOf withFlags flagsOf nzcv predTest atLowest atHighest
     whileElement allHeld comparison operandAt elements predicateLength spread elementBit pack number active bitAt testBit count some afterLast scan
 walked-whole = refl

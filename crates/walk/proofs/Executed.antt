@@ -9,7 +9,6 @@ use lib.ListN.{length, length-set}
 use mir.Syntax.{w64}
 use borrow.Author.Tests.{lt-ltb, le-ltb}
 use Rattle.bits.specs.declared.Size.{Size}
-use Rattle.bits.specs.Search.{count}
 use Rattle.bits.specs.Size.{shift}
 use Rattle.bits.proofs.Searches.{first-is}
 use Rattle.predicates.specs.declared.Flags.{Flags}
@@ -17,7 +16,8 @@ use Rattle.predicates.specs.declared.Predicate.{Predicate}
 use Rattle.predicates.specs.PredTest.{every, predTest}
 use Rattle.predicates.specs.Predicate.{allFalse, active, between, spanOf, spread, pack, elements}
 use Rattle.registers.specs.declared.State.{State}
-use Rattle.registers.specs.State.{readX, readP, withX, withP, withFlags}
+use Rattle.tally.specs.Counts.{countAt}
+use Rattle.registers.specs.State.{readX, readP, readCounts, withX, withP, withFlags}
 use Rattle.registers.proofs.Registers.{Sized, withX-out, withP-out}
 use Rattle.scalars.specs.declared.Condition.the-variants.{Less}
 use Rattle.words.specs.declared.Instruction.the-variants.{While, IncDec, Pnext, Pfalse}
@@ -41,12 +41,12 @@ abbrev writing : ℕ → ℕ → ℕ → ℕ → ℕ → ℕ → ℕ → Bool �
 writing a b g p q rd pd sets = record { rn = a; rm = b; pg = g; pn = p; pm = q; rd = rd; pd = pd; pd2 = none; flags = sets }
 
 module _ (s : State) (z : Sized s) (a b g p q : ℕ) where
-  no-p : (t : State) → length (t .p) ≡ 17 → withP t none allFalse ≡ t
-  no-p t e = sym (withP-out t none allFalse (omega (arith, e)))
+  no-p : (t : State) → length (t .p) ≡ 17 → length (t .counts) ≡ 16 → withP t none allFalse ≡ t
+  no-p t e h = sym (withP-out t none allFalse (omega (arith, e)) (omega (arith, h)))
 
   writes-x : (r v : ℕ) → apply s (writing a b g p q r none false) (givesX v) ≡ withX s r v
   unfolding apply withX
-  writes-x r v = ap (λ (u : State). withP u none allFalse) (no-p (withX s r v) (z .ps)) ∙ no-p (withX s r v) (z .ps)
+  writes-x r v = ap (λ (u : State). withP u none allFalse) (no-p (withX s r v) (z .ps) (z .cs)) ∙ no-p (withX s r v) (z .ps) (z .cs)
 
   no-x : (f : Flags) → withX (withFlags s f) none 0 ≡ withFlags s f
   unfolding withFlags
@@ -56,13 +56,13 @@ module _ (s : State) (z : Sized s) (a b g p q : ℕ) where
   unfolding apply withP
   writes-p r o =
       ap (λ (u : State). withP (withP u r o) none allFalse) (sym (withX-out s none 0 (omega (arith, z .xs))))
-      ∙ no-p (withP s r o) (length-set (s .p) r o ∙ z .ps)
+      ∙ no-p (withP s r o) (length-set (s .p) r o ∙ z .ps) (length-set (s .counts) r _ ∙ z .cs)
 
   writes-pf : (r : ℕ) (o : Predicate) (f : Flags) → apply s (writing a b g p q none r true) (givesPF o f) ≡ withP (withFlags s f) r o
   unfolding apply withP withFlags
   writes-pf r o f =
       ap (λ (u : State). withP (withP u r o) none allFalse) (no-x f)
-      ∙ no-p (withP (withFlags s f) r o) (length-set (s .p) r o ∙ z .ps)
+      ∙ no-p (withP (withFlags s f) r o) (length-set (s .p) r o ∙ z .ps) (length-set (s .counts) r _ ∙ z .cs)
 
 -- ---- WHILELO's comparisons, where nothing wraps
 
@@ -122,7 +122,7 @@ module _ (s : State) (z : Sized s) (size : Size) where
       ∙ ap₂ (λ (x y : Predicate). withP (withFlags s (predTest (active (shift size) x) (active (shift size) (nextResult size x y (s .vl))) (elements (s .vl) size))) k (nextResult size x y (s .vl))) ev en
       ∙ ap (λ (x : Predicate). withP (withFlags s (predTest (active (shift size) v) (active (shift size) x) (elements (s .vl) size))) k x) (sym eq)
 
-  pub executes-incp : (n d x : ℕ) → (readX s n + count (active (shift size) (readP s d)) (elements (s .vl) size)) % 2 ^ 64 ≡ x
+  pub executes-incp : (n d x : ℕ) → (readX s n + countAt size (readCounts s d)) % 2 ^ 64 ≡ x
       → executeOf s (IncDec false size d n) ≡ withX s n x
   unfolding executeOf computeOf incDecOf
   executes-incp n d x e = writes-x s z n none none none d n _ ∙ ap (withX s n) e

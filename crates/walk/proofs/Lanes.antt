@@ -25,7 +25,11 @@ use Rattle.predicates.proofs.Live.{elements-fit}
 use Rattle.predicates.proofs.Spans.{between-yes, between-after, active-span, count-span, first-in-span, first-past-span, last-of-one}
 use Rattle.predicates.proofs.Words.{pack-bit, pack-cong}
 use Rattle.registers.specs.declared.State.{State}
-use Rattle.registers.specs.State.{readX, readP, withX, withP, withFlags}
+use Rattle.tally.specs.declared.Counts.{Counts}
+use Rattle.tally.specs.Counts.{countsOf, noCounts, countAt}
+use Rattle.tally.proofs.Same.{count-at}
+use Rattle.registers.specs.State.{readX, readP, readCounts, withX, withP, withFlags}
+use Rattle.registers.proofs.Legality.{counts-stay}
 use Rattle.registers.proofs.Registers.{Sized}
 use Rattle.scalars.specs.declared.Condition.the-variants.{Less}
 use Rattle.words.specs.declared.Instruction.the-variants.{While, IncDec, Pnext, Pfalse}
@@ -54,7 +58,7 @@ module _ (size : Size) (n m d k : ℕ) (s : State) (l : List ℕ) (g : Within si
 
   pub sized : Sized (base s n d k x pd pk f)
   unfolding withX withP withFlags
-  sized = record { xs = length-set (s .x) n x ∙ g .xs; ps = length-set (set (s .p) d pd) k pk ∙ length-set (s .p) d pd ∙ g .ps }
+  sized = record { xs = length-set (s .x) n x ∙ g .xs; ps = length-set (set (s .p) d pd) k pk ∙ length-set (s .p) d pd ∙ g .ps; cs = length-set (set (s .counts) d _) k _ ∙ length-set (s .counts) d _ ∙ g .cs }
 
   pub get-xn : readX (base s n d k x pd pk f) n ≡ x
   unfolding withX withP withFlags
@@ -72,17 +76,27 @@ module _ (size : Size) (n m d k : ℕ) (s : State) (l : List ℕ) (g : Within si
   unfolding withX withP withFlags
   get-pd = getD-set-other (set (s .p) d pd) k d pk allFalse (g .other-p) ∙ getD-set-same (s .p) d pd allFalse (omega (arith, g .ps, g .d-below))
 
+  pub get-counts : readCounts (base s n d k x pd pk f) d ≡ countsOf (s .vl) pd
+  unfolding withX withP withFlags
+  get-counts = getD-set-other (set (s .counts) d (countsOf (s .vl) pd)) k d _ noCounts (g .other-p) ∙ getD-set-same (s .counts) d (countsOf (s .vl) pd) noCounts (omega (arith, g .cs, g .d-below))
+
   pub get-vl : base s n d k x pd pk f .vl ≡ s .vl
   unfolding withX withP withFlags
   get-vl = refl
 
   pub put-pk : (q : Predicate) (h : Flags) → withP (withFlags (base s n d k x pd pk f) h) k q ≡ base s n d k x pd q h
   unfolding withX withP withFlags
-  put-pk q h = rw (set-set (set (s .p) d pd) k pk q)
+  put-pk q h = rw (set-set (set (s .p) d pd) k pk q, set-set (set (s .counts) d (countsOf (s .vl) pd)) k (countsOf (s .vl) pk) (countsOf (s .vl) q))
 
   pub put-pd : (q : Predicate) (h : Flags) → withP (withFlags (base s n d k x pd pk f) h) d q ≡ base s n d k x q pk h
   unfolding withX withP withFlags
-  put-pd q h = rw (set-comm (set (s .p) d pd) k d pk q (λ e. g .other-p (sym e)), set-set (s .p) d pd q)
+  put-pd q h =
+      rw (
+        set-comm (set (s .p) d pd) k d pk q (λ e. g .other-p (sym e)),
+        set-set (s .p) d pd q,
+        set-comm (set (s .counts) d (countsOf (s .vl) pd)) k d (countsOf (s .vl) pk) (countsOf (s .vl) q) (λ e. g .other-p (sym e)),
+        set-set (s .counts) d (countsOf (s .vl) pd) (countsOf (s .vl) q),
+      )
 
   pub put-xn : (v : ℕ) → withX (base s n d k x pd pk f) n v ≡ base s n d k v pd pk f
   unfolding withX withP withFlags
@@ -202,15 +216,15 @@ module _ (size : Size) (n m d k : ℕ) (s : State) where
   Ready o t = (q : Predicate) × (f : Flags) × (t ≡ base s n d k (readX s n + o) q allFalse f)
 
   module _ (l : List ℕ) (g : Within size n m d k s l) where
-    plainly : Sized s
-    plainly = record { xs = g .xs; ps = g .ps }
+    pub plainly : Sized s
+    plainly = record { xs = g .xs; ps = g .ps; cs = g .cs }
 
     lanes-le : (o : ℕ) → lanesOf o ≤ elements (s .vl) size
     lanes-le o = omega arith
 
     begins : Ready 0 (executeOf s (Pfalse k))
     unfolding withX withP withFlags
-    begins = (readP s d, s .flags, executes-pfalse s plainly size k ∙ rw (add-zero, set-getD (s .x) n 0, set-getD (s .p) d allFalse))
+    begins = (readP s d, s .flags, executes-pfalse s plainly size k ∙ rw (add-zero, set-getD (s .x) n 0, set-getD (s .p) d allFalse, counts-stay s d plainly (g .ok) (g .d-below)))
 
     -- where the state before the round has Xn, Pd and the flags x, q and f
     enters : (o : ℕ) (t : State) → o ≤ distance n m s → Ready o t → executeOf t (While Less true (One true d) size n m) ≡ laneAt o 0
@@ -280,9 +294,9 @@ module _ (size : Size) (n m d k : ℕ) (s : State) where
         let f = predTest (active (shift size) pd) (active (shift size) pk) (elements (s .vl) size) in
         let b = base s n d k x pd pk f in
         let same : x + w ≡ readX s n + (o + w) = omega arith in
-        let sum : (readX b n + count (active (shift size) (readP b d)) (elements (s .vl) size)) % 2 ^ 64 ≡ readX s n + (o + w) =
-        ap₂ (λ (a : ℕ) (p : Predicate). (a + count (active (shift size) p) (elements (s .vl) size)) % 2 ^ 64) (get-xn size n m d k s l g x pd pk f) (get-pd size n m d k s l g x pd pk f)
-        ∙ ap (λ (c : ℕ). (x + c) % 2 ^ 64) (lanes-count (s .vl) size w (lanes-le o)) ∙ ap (λ (v : ℕ). v % 2 ^ 64) same ∙ mod-eq-of-lt (omega (arith, g .limit-fits)) in (
+        let sum : (readX b n + countAt size (readCounts b d)) % 2 ^ 64 ≡ readX s n + (o + w) =
+        ap₂ (λ (a : ℕ) (c : Counts). (a + countAt size c) % 2 ^ 64) (get-xn size n m d k s l g x pd pk f) (get-counts size n m d k s l g x pd pk f)
+        ∙ ap (λ (c : ℕ). (x + c) % 2 ^ 64) (count-at (s .vl) size pd ∙ lanes-count (s .vl) size w (lanes-le o)) ∙ ap (λ (v : ℕ). v % 2 ^ 64) same ∙ mod-eq-of-lt (omega (arith, g .limit-fits)) in (
           pd,
           f,
           executes-incp b (sized size n m d k s l g x pd pk f) size n d (readX s n + (o + w)) sum ∙ put-xn size n m d k s l g x pd pk f (readX s n + (o + w))

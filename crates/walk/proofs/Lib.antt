@@ -12,3 +12,4 @@ pub mod Answered
 pub mod Lengths
 pub mod Untouched
 pub mod Examples
+pub mod Kept

@@ -16,7 +16,11 @@ use Rattle.predicates.specs.PredTest.{predTest, nzcv, flagsOf}
 use Rattle.predicates.specs.Predicate.{bitAt, pack, allFalse, active, touched, spread, spanOf, elements, liveOf}
 use Rattle.predicates.proofs.Flagging.{flags-back, only-tests}
 use Rattle.predicates.proofs.Live.{count-live, last-live}
+use Rattle.tally.specs.declared.Counts.{Counts}
+use Rattle.tally.specs.Counts.{countAt}
+use Rattle.tally.proofs.Same.{count-at}
 use Rattle.registers.specs.declared.State.{State}
+use Rattle.registers.proofs.Legality.{counts-stay}
 use Rattle.registers.specs.State.{readX, readP, withX, withP, withFlags}
 use Rattle.scalars.specs.declared.Condition.the-variants.{Less}
 use Rattle.words.specs.declared.Target.the-variants.{One}
@@ -33,7 +37,7 @@ use Rattle.walk.specs.declared.Phase.the-variants as P
 use Rattle.walk.specs.Walk.{positionAt, positionOf}
 use Rattle.walk.proofs.Accepted.{Within}
 use Rattle.walk.proofs.Executed.{executes-pfalse, executes-held, executes-pnext, executes-incp}
-use Rattle.walk.proofs.Lanes.{base, sized, get-xn, get-xm, get-pk, get-pd, put-pk, put-pd, put-xn, last-single, first-single}
+use Rattle.walk.proofs.Lanes.{base, sized, plainly, get-xn, get-xm, get-pk, get-pd, get-counts, put-pk, put-pd, put-xn, last-single, first-single}
 
 -- what is known of a round's lanes and of the cursor: the lowest bit of the lanes, the end of their bits, and the element from which PNEXT searches
 pub record Measured (vl : ℕ) (size : Size) (pd pk : Predicate) (low end from : ℕ) : Type 0 where
@@ -78,7 +82,7 @@ z-flag s n d k x pd pk f = refl
 module _ (size : Size) (n m d k : ℕ) (s : State) (l : List ℕ) (g : Within size n m d k s l) where
   pub begins : base s n d k (readX s n) (readP s d) (readP s k) (s .flags) ≡ s
   unfolding withX withP withFlags
-  begins = rw (set-getD (s .x) n 0, set-getD (s .p) d allFalse, set-getD (s .p) k allFalse)
+  begins = rw (set-getD (s .x) n 0, set-getD (s .p) d allFalse, set-getD (s .p) k allFalse, counts-stay s d (plainly size n m d k s l g) (g .ok) (g .d-below), counts-stay s k (plainly size n m d k s l g) (g .ok) (g .k-below))
 
   module _ (x : ℕ) (pd pk : Predicate) (f : Flags) where
     abbrev here : State
@@ -107,7 +111,8 @@ module _ (size : Size) (n m d k : ℕ) (s : State) (l : List ℕ) (g : Within si
     adds v w c y live under counted sum =
         let is = counted ∙ count-live (s .vl) size pd w (under ∙ ap (λ (q : Predicate). pack (λ b. bitAt pd b && bitAt q b)) live) in
         let all = sum ∙ ap (λ (j : ℕ). (x + j) % 2 ^ 64) is
-        ∙ ap₂ (λ (a : ℕ) (p : Predicate). (a + count (active (shift size) p) (elements (s .vl) size)) % 2 ^ 64) (sym (get-xn size n m d k s l g x pd pk f)) (sym (get-pd size n m d k s l g x pd pk f)) in
+        ∙ ap (λ (j : ℕ). (x + j) % 2 ^ 64) (sym (count-at (s .vl) size pd))
+        ∙ ap₂ (λ (a : ℕ) (j : Counts). (a + countAt size j) % 2 ^ 64) (sym (get-xn size n m d k s l g x pd pk f)) (sym (get-counts size n m d k s l g x pd pk f)) in
         sym (executes-incp here (sized size n m d k s l g x pd pk f) size n d y (sym all) ∙ put-xn size n m d k s l g x pd pk f y)
 
     -- PNEXT, by what its search found

@@ -2,8 +2,23 @@
 //! and with each function at a multiple of 64 bytes: else a walk may be a tenth slower for the address alone.
 
 use crate::builds::Build;
-use plokamyr::{Flags, Predicate, State};
+use plokamyr::{Counts, Flags, Predicate, State};
+use std::mem::size_of;
 use std::ptr::{addr_of_mut, null, null_mut};
+
+/// A state as the header lays it out, to be lent by its parts; `p` has FFR after it.
+#[repr(C)]
+struct Parts {
+    vl: u64,
+    level: u8,
+    access: bool,
+    flags: Flags,
+    x: [u64; 31],
+    p: [Predicate; 17],
+    counts: [Counts; 16],
+}
+
+const _: () = assert!(size_of::<Parts>() == size_of::<State>());
 
 #[repr(C)]
 struct Ran {
@@ -33,6 +48,7 @@ macro_rules! copy {
                 flags: *mut Flags,
                 x: *mut [u64; 31],
                 p: *mut [Predicate; 17],
+                counts: *mut [Counts; 16],
                 words: *const u32,
                 count: usize,
             ) -> Ran;
@@ -52,15 +68,15 @@ macro_rules! copy {
         Build {
             suffix: $suffix,
             run: |state, words| {
-                let State { vl, level, access, .. } = *state;
                 let state: *mut State = state;
-                // SAFETY: the parts are lent for writing and for this call alone, lie apart, and have C's layout; `ffr`
-                // is the predicate after `p`, and the pointer to both comes from that to the state. The words are
-                // readable for their length.
+                let parts: *mut Parts = state.cast();
+                // SAFETY: a state has C's layout, which is that of its parts. They are lent for writing and for this call
+                // alone, and lie apart. The words are readable for their length.
                 let ran = unsafe {
-                    let (flags, x) = (addr_of_mut!((*state).flags), addr_of_mut!((*state).x));
-                    let p = addr_of_mut!((*state).p).cast();
-                    run_parts(vl, level, access, flags, x, p, words.as_ptr(), words.len())
+                    let Parts { vl, level, access, .. } = *parts;
+                    let (flags, x) = (addr_of_mut!((*parts).flags), addr_of_mut!((*parts).x));
+                    let (p, counts) = (addr_of_mut!((*parts).p), addr_of_mut!((*parts).counts));
+                    run_parts(vl, level, access, flags, x, p, counts, words.as_ptr(), words.len())
                 };
                 (ran.reply == 0).then_some(ran.done)
             },

@@ -9,6 +9,9 @@ use std::hint::black_box;
 /// A run is short: as many are timed together as have so many words.
 const TIMED: usize = 20 * 4096;
 
+/// A call that does little is short too: so many are timed together.
+const CALLS: u64 = 20_000;
+
 /// The step where the state stands, called for each word.
 pub fn step(start: &State, words: &[u32]) -> f64 {
     each(start, words, State::step)
@@ -34,6 +37,28 @@ fn each(start: &State, words: &[u32], step: impl Fn(&mut State, u32) -> Reply) -
     time
 }
 
+/// A step that is refused for its word: that the state is legal is tested, and little else is done.
+pub fn refused_step(start: &State) -> f64 {
+    let mut state = start.clone();
+    let time = best(5, CALLS, || {
+        for _ in 0..CALLS {
+            assert_eq!(black_box(&mut state).step(black_box(words::FOREIGN)), Reply::ForeignWord);
+        }
+    });
+    assert_eq!(state, *start, "a refused step");
+    time
+}
+
+/// The counts worked out.
+pub fn counted(start: &State) -> f64 {
+    best(5, CALLS, || {
+        for _ in 0..CALLS {
+            let counted = black_box(start).counted();
+            assert_eq!(black_box(&counted).count(0, 0), start.count(0, 0));
+        }
+    })
+}
+
 pub fn run(build: &Build, start: &State, words: &[u32]) -> f64 {
     time_and_state(build, start, words).0
 }
@@ -42,7 +67,7 @@ pub fn run(build: &Build, start: &State, words: &[u32]) -> f64 {
 pub fn run_pnext(build: &Build, vl: u64) -> f64 {
     let start = words::start_of_pnext(vl);
     let (time, state) = time_and_state(build, &start, &words::pnext());
-    assert!(state.p.iter().all(|cursor| *cursor == start.p[0]), "each cursor has found the last element");
+    assert!(state.p().iter().all(|cursor| *cursor == start.p()[0]), "each cursor has found the last element");
     time
 }
 

@@ -46,7 +46,9 @@ const RATIOS: [(&str, &str); 12] = [
 const NOTES: &str = "
 step, run: 4,096 words, the seventeen forms in turn, their fields drawn at random, at level 3; but a WRFFR writes what the
 RDFFR before it has read, so that none is refused. The library's state after them was compared with the second program's.
-Step, lent: by way of the step by value. Nine forms: those of levels 1 and 2 without FFR's.
+Step, lent: by way of the step by value. Step, refused for its word: that the state is legal is tested, its counts among
+that, and little else is done. Counted: all counts worked out, the state copied in and back. Both in ns for each call, with any
+bits in the predicates. Nine forms: those of levels 1 and 2 without FFR's.
 Logic: predicate logic alone, all operations, with and without flags.
 FFR: its five forms alone, in turn, from an FFR that is empty.
 Counters: CNTP of counters alone, all sizes and groups, of all marks, half of them inverted.
@@ -89,6 +91,7 @@ fn main() {
     for _ in 0..ROUNDS {
         for (column, vl) in LENGTHS.into_iter().enumerate() {
             bench.words_round(column, vl);
+            bench.counts_round(column, vl);
             bench.base_words_round(column, vl);
             bench.logic_round(column, vl);
             bench.counters_round(column, vl);
@@ -133,6 +136,14 @@ impl Bench {
             table.take(&build.line("run"), column, library::run(build, &start, all));
         }
         table.take("run, second program", column, second::run(&start, all));
+    }
+
+    /// Times what the counts cost by themselves.
+    fn counts_round(&mut self, column: usize, vl: u64) {
+        let start = words::start_of_logic(vl);
+        let table = &mut self.table;
+        table.take("step, refused for its word", column, library::refused_step(&start));
+        table.take("counted", column, library::counted(&start));
     }
 
     /// Times the words that QEMU executes too.

@@ -118,10 +118,12 @@ fn state(vl: u64, lines: &[String]) -> State {
     let flags = hex(&lines[28]);
     let flag = |bit: u32| flags >> bit & 1 == 1;
     state.flags = plokamyr::Flags { n: flag(3), z: flag(2), c: flag(1), v: flag(0) };
-    for (p, line) in state.p.iter_mut().zip(&lines[29..]) {
+    let mut predicates = *state.p();
+    for (p, line) in predicates.iter_mut().zip(&lines[29..]) {
         for i in 0..line.len() / 2 {
             p.words[i / 8] |= hex(&line[2 * i..2 * i + 2]) << (i % 8 * 8);
         }
     }
+    state.set_all_p(predicates);
     state
 }

@@ -2,7 +2,7 @@
 
 use crate::library::{after, walk_instructions};
 use crate::timing::best;
-use plokamyr::State;
+use plokamyr::{Counts, State};
 use std::hint::black_box;
 
 const POSITIONS: u64 = 20_000;
@@ -10,13 +10,14 @@ const POSITIONS: u64 = 20_000;
 fn state_of(state: &State) -> model::State {
     let plokamyr::Flags { n, z, c, v } = state.flags;
     model::State {
-        vl: state.vl,
+        vl: state.vl(),
         level: state.level,
         access: state.access,
         flags: model::Flags { n, z, c, v },
         x: state.x,
-        p: state.p.map(|p| p.words),
+        p: state.p().map(|p| p.words),
         ffr: state.ffr.words,
+        counts: state.counts().map(|Counts { b, h, s, d }| [b, h, s, d]),
     }
 }
 

@@ -142,11 +142,13 @@ pub fn logic(count: usize) -> Vec<u32> {
 pub fn start_of_logic(vl: u64) -> State {
     let mut dice = Dice::new(0xD134_2543_DE82_EF95);
     let mut state = start(vl);
+    let mut predicates = *state.p();
     for bit in 0..16 * vl as usize / 8 {
         let (p, bit) = (bit % 16, bit / 16);
         let one = if p == 0 { 1 } else { dice.below(2) };
-        state.p[p].words[bit / 64] |= one << (bit % 64);
+        predicates[p].words[bit / 64] |= one << (bit % 64);
     }
+    state.set_all_p(predicates);
     state
 }
 
@@ -159,10 +161,10 @@ pub fn counters(count: usize) -> Vec<u32> {
 pub fn start_of_counters(vl: u64) -> State {
     let mut dice = Dice::new(0xD134_2543_DE82_EF95);
     let mut state = start(vl);
-    for (i, p) in state.p.iter_mut().enumerate() {
+    for i in 0..16 {
         let (size, inversion) = (i % 4, i as u64 / 8);
         let count = dice.below(4 * vl / (8 << size));
-        p.words[0] = inversion << 15 | count << (size + 1) | 1 << size;
+        state.set_p(i, Predicate::from(inversion << 15 | count << (size + 1) | 1 << size));
     }
     state
 }
@@ -175,9 +177,12 @@ pub fn pnext() -> Vec<u32> {
 /// Only the last byte element is active in P0; every cursor is empty.
 pub fn start_of_pnext(vl: u64) -> State {
     let mut state = State::new(vl, 1);
-    state.p[0] = only_last(vl);
+    state.set_p(0, only_last(vl));
     state
 }
+
+/// A word that is none of ours.
+pub const FOREIGN: u32 = 0;
 
 /// The predicate in which only the last byte element is active.
 pub fn only_last(vl: u64) -> Predicate {

@@ -3,7 +3,7 @@
 
 use compare::routes::Route;
 use model::{Flags, Ran, Reading, Row, State, Walked, Written};
-use plokamyr::{Predicate, Reply};
+use plokamyr::{Counts, Predicate, Reply};
 use std::hint::black_box;
 
 const CANARY: u64 = 0xC0DE_CAFE_F00D_D00D;
@@ -38,6 +38,10 @@ pub fn step_lent(state: &State, word: u32) -> (u8, State) {
 pub fn run(state: &State, words: &[u32]) -> Ran {
     let (ran, state) = in_place(state, |state| state.run(words));
     Ran { reply: number(ran.reply), refused: number(ran.refused), done: ran.done, state }
+}
+
+pub fn counted(state: &State) -> State {
+    from_library(&to_library(state).counted())
 }
 
 pub fn walk(route: &Route, list: &mut [u64]) -> Walked {
@@ -89,20 +93,23 @@ fn to_library(state: &State) -> plokamyr::State {
     library.access = state.access;
     library.flags = plokamyr::Flags { n, z, c, v };
     library.x = state.x;
-    library.p = state.p.map(|words| Predicate { words });
+    library.set_all_p(state.p.map(|words| Predicate { words }));
     library.ffr = Predicate { words: state.ffr };
+    // as they are, right or wrong; the setter before has worked them out
+    library.set_counts(state.counts.map(|[b, h, s, d]| Counts { b, h, s, d }));
     library
 }
 
 fn from_library(state: &plokamyr::State) -> State {
     let plokamyr::Flags { n, z, c, v } = state.flags;
     State {
-        vl: state.vl,
+        vl: state.vl(),
         level: state.level,
         access: state.access,
         flags: Flags { n, z, c, v },
         x: state.x,
-        p: state.p.map(|predicate| predicate.words),
+        p: state.p().map(|predicate| predicate.words),
         ffr: state.ffr.words,
+        counts: state.counts().map(|Counts { b, h, s, d }| [b, h, s, d]),
     }
 }

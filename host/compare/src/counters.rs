@@ -85,7 +85,7 @@ impl Kind for Counters {
         let pnn = random.below(16) as u8;
         let mut predicate = states::shaped(random, length, Shape::Dense);
         predicate[0] = predicate[0] & !0xFFFF | counter;
-        state.p[usize::from(pnn)] = predicate;
+        states::put(&mut state, pnn, predicate);
         (state, GROUPS.map(|(size, vl)| cntp(size, vl, pnn, random.below(32) as u8)))
     }
 

@@ -5,7 +5,7 @@ use model::{write, State};
 use std::ops::Range;
 
 /// An old image has no section for FFR.
-#[derive(Clone, Copy, PartialEq, Eq, Debug)]
+#[derive(Clone, Copy, PartialEq, Eq, Hash, Debug)]
 pub enum Age {
     New,
     Old,

@@ -2,6 +2,7 @@
 
 use crate::lent::Lent;
 use compare::instructions::FORMS;
+use compare::states;
 use model::State;
 use std::fmt::{Debug, LowerHex, Write};
 
@@ -40,6 +41,19 @@ impl Differences {
             self.field(&format!("p{i}"), predicate(&library.p[i]), predicate(&second.p[i]));
         }
         self.field("ffr", predicate(&library.ffr), predicate(&second.ffr));
+        for i in 0..16 {
+            self.field(&format!("counts of p{i}"), library.counts[i], second.counts[i]);
+        }
+    }
+
+    /// The counts that a state has, against those of its predicates.
+    pub fn counts(&mut self, state: &State) {
+        let anew = states::recounted(state).counts;
+        for (i, (kept, anew)) in state.counts.iter().zip(anew).enumerate() {
+            if *kept != anew {
+                self.0.push(format!("counts of p{i}: kept {kept:?}, counted anew {anew:?}"));
+            }
+        }
     }
 
     /// Lent memory, with its canaries.
@@ -72,8 +86,8 @@ pub fn show_state(state: &State) -> String {
     for (i, x) in state.x.iter().enumerate() {
         writeln!(text, "x{i} {x:#x}").expect("a string has room");
     }
-    for (i, words) in state.p.iter().enumerate() {
-        writeln!(text, "p{i} {}", predicate(words)).expect("a string has room");
+    for (i, (words, counts)) in state.p.iter().zip(state.counts).enumerate() {
+        writeln!(text, "p{i} {}, counts {counts:?}", predicate(words)).expect("a string has room");
     }
     text + &format!("ffr {}\n", predicate(&state.ffr))
 }

@@ -175,7 +175,7 @@ impl Kind for Ffr {
         let case = Case::new(number);
         let mut state = ready(random, case.vl);
         state.level = 1 + random.below(3) as u8;
-        state.p[usize::from(case.pg)] = mask(random, case.vl, case.mask);
+        states::put(&mut state, case.pg, mask(random, case.vl, case.mask));
         state.ffr = match case.ffr {
             Some(shape) => states::shaped(random, case.vl, shape),
             None => states::run(random.below(case.vl / 8 + 1)),

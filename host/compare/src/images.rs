@@ -55,6 +55,7 @@ fn compare(image: &Image, seen: &mut Seen) -> Outcome {
     differences.lent("words", &ours, &theirs);
     differences.lent("image", &lent, &before);
     if library.reply == 0 {
+        differences.counts(&library.state);
         write_again(image, &library, ours.held(), &mut differences);
     }
     seen.reply(second.reply);
@@ -93,6 +94,8 @@ impl Kind for Reads {
         "old",
         "old of 4,096 words",
         "FFR not a run of ones",
+        "counts not all 0",
+        "counts not all 0, from an old image",
         "could be read as new, but old",
         "could be read as old, but new",
         "6 for FFR's count 0",
@@ -161,6 +164,9 @@ fn note_age(seen: &mut Seen, image: &[u8], reading: &Reading) {
     seen.note(if old { "old" } else { "new" });
     seen.note_if(old && reading.count == 4096, "old of 4,096 words");
     seen.note_if(!states::is_run(&reading.state.ffr), "FFR not a run of ones");
+    let counts = reading.state.counts != [[0; 4]; 16];
+    seen.note_if(counts, "counts not all 0");
+    seen.note_if(counts && old, "counts not all 0, from an old image");
     let other = Damage::Count(damage::ffr_section(reading.state.vl).start, if old { 1 } else { 4 });
     if model::read(&damage::damaged(image, other), &mut [0; 4096]).reply == 0 {
         seen.note(if old { "could be read as new, but old" } else { "could be read as old, but new" });

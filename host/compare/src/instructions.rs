@@ -45,12 +45,25 @@ pub const WIDTHS: [&[u8]; FORMS.len()] = [
     &[4, 4],
 ];
 
+/// The numbers of the forms that write a predicate by comparisons, or a pair of them.
+pub const WHILE_ONE: u8 = 0;
+pub const WHILE_PAIR: u8 = 1;
+
 /// The numbers of the forms that write a counter and read one.
 pub const WHILE_COUNTER: u8 = 2;
 pub const CNTP_COUNTER: u8 = 6;
 
+/// The numbers of the forms that go by the count of Pm. The fields are size, D, U, sf, Pm, Rdn; without saturation, size, D,
+/// Pm, Rdn.
+pub const SATURATING: u8 = 3;
+pub const INC_DEC: u8 = 4;
+
 /// The number of PNEXT. The fields are size, Pv, Pdn.
 pub const PNEXT: u8 = 7;
+
+/// The numbers of PFIRST and PFALSE. The fields are Pg, Pdn; Pd.
+pub const PFIRST: u8 = 8;
+pub const PFALSE: u8 = 10;
 
 /// The number of predicate logic. The fields are op, S, Pm, Pg, o2, Pn, o3, Pd.
 pub const LOGIC: u8 = 11;
@@ -123,6 +136,23 @@ pub fn row(random: &mut Random, form: usize) -> Row {
 pub fn word_of(random: &mut Random, form: usize) -> u32 {
     let row = row(random, form);
     encode(&row).unwrap_or_else(|| panic!("the second program refuses to write {row:?}"))
+}
+
+/// The forms that write predicates.
+pub const WRITERS: [u8; 10] =
+    [WHILE_ONE, WHILE_PAIR, WHILE_COUNTER, PNEXT, PFIRST, PFALSE, LOGIC, RDFFR, RDFFR_PG, RDFFRS_PG];
+
+/// The predicate registers that a word writes.
+pub fn written(row: &Row) -> Vec<u8> {
+    match *row {
+        [WHILE_PAIR, _, _, _, _, _, pd, ..] => vec![2 * pd, 2 * pd + 1],
+        [WHILE_COUNTER, .., pnd] => vec![8 + pnd],
+        [WHILE_ONE | LOGIC, .., pd] => vec![pd],
+        [PNEXT, _, _, pd, ..] => vec![pd],
+        [PFIRST | RDFFR_PG | RDFFRS_PG, _, pd, ..] => vec![pd],
+        [PFALSE | RDFFR, pd, ..] => vec![pd],
+        _ => Vec::new(),
+    }
 }
 
 /// A word of any form.
@@ -222,10 +252,11 @@ pub fn tie(random: &mut Random, state: &mut State, word: u32) {
         Some([2, size, rm, vl, _, lt, rn, ..]) => tie_limit(random, state, elements(size) << (1 + vl), rn, rm, lt),
         Some([3, size, _, u, sf, _, rdn, ..]) => tie_end(random, state, elements(size), u, sf, rdn),
         Some([CNTP_COUNTER, _, _, pnn, ..]) => {
-            let low = &mut state.p[usize::from(pnn)][0];
-            *low = *low & !0xFFFF | states::counter(random, vl);
+            let mut predicate = state.p[usize::from(pnn)];
+            predicate[0] = predicate[0] & !0xFFFF | states::counter(random, vl);
+            states::put(state, pnn, predicate);
         }
-        Some([WRFFR, pn, ..]) => state.p[usize::from(pn)] = states::near_run(random, vl),
+        Some([WRFFR, pn, ..]) => states::put(state, pn, states::near_run(random, vl)),
         _ => {}
     }
 }

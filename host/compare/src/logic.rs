@@ -106,7 +106,7 @@ impl Kind for Logic {
         let registers = four_registers(random);
         let [pd, pg, pn, pm] = case.pattern.map(|place| registers[place]);
         for (p, shape) in [pg, pn, pm].into_iter().zip(case.shapes) {
-            state.p[usize::from(p)] = states::shaped(random, case.vl, shape);
+            states::put(&mut state, p, states::shaped(random, case.vl, shape));
         }
         let [op, o2, o3] = [2, 1, 0].map(|bit| (case.operation >> bit & 1) as u8);
         (state, logic_word(&[LOGIC, op, case.s, pm, pg, o2, pn, o3, pd]))
@@ -155,7 +155,7 @@ fn note(seen: &mut Seen, before: &State, after: &State, &[_, op, s, pm, pg, o2, 
 pub fn flags_under(mask: [u64; 4], state: &State, d: u8) -> Flags {
     let mut state = state.clone();
     let g = (d + 1) % 16; // any but Pd
-    state.p[usize::from(g)] = mask;
+    states::put(&mut state, g, mask);
     let ptest = encode(&[9, g, d, 0, 0, 0, 0, 0, 0]).expect("its fields are in range");
     assert_eq!(model::step(&mut state, ptest), 0, "the state is legal, with a level and access");
     state.flags

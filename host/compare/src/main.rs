@@ -5,9 +5,14 @@
 #![deny(unsafe_code)]
 
 mod boundary;
+mod budgets;
+mod chains;
+mod counted;
 mod counters;
+mod counts;
 mod differences;
 mod ffr;
+mod illegal;
 mod images;
 mod kind;
 mod lent;
@@ -40,7 +45,7 @@ fn entry<K: Kind>() -> Entry {
     Entry { name: K::NAME, all: run_all::<K>, one: run_case::<K> }
 }
 
-fn entries() -> [Entry; 17] {
+fn entries() -> [Entry; 21] {
     [
         entry::<steps::Steps>(),
         entry::<steps::Runs>(),
@@ -51,7 +56,11 @@ fn entries() -> [Entry; 17] {
         entry::<ffr::Ffr>(),
         entry::<wrffr::Wrffr>(),
         entry::<strays::Strays>(),
+        entry::<counts::Counts>(),
+        entry::<counted::Counted>(),
+        entry::<chains::Chains>(),
         entry::<walks::Walks>(),
+        entry::<budgets::Budgets>(),
         entry::<images::Reads>(),
         entry::<images::Cuts>(),
         entry::<images::Damages>(),

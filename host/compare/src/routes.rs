@@ -43,6 +43,19 @@ pub fn route(random: &mut Random, vl: u64, bounds: &Bounds) -> Route {
     route
 }
 
+/// A walk that nothing refuses, of so many positions: its list has a place for each, its budget is what is needed.
+pub fn accepted(random: &mut Random, vl: u64, size: u32, distance: u64) -> Route {
+    let mut state = states::legal(random, vl);
+    (state.level, state.access) = (1 + random.below(3) as u8, true);
+    let mut route = Route { state, size, n: 0, m: 0, d: 0, k: 0, places: distance as usize, budget: 0 };
+    allowed_registers(random, &mut route);
+    route.m = (route.n + 1 + random.below(30) as u32) % 31; // register 31 is no limit of so many
+    let start = random.below(u64::MAX - distance);
+    (route.state.x[route.n as usize], route.state.x[route.m as usize]) = (start, start + distance);
+    route.budget = route.need();
+    route
+}
+
 fn allowed_registers(random: &mut Random, route: &mut Route) {
     route.n = random.below(31) as u32;
     route.m = (route.n + 1 + random.below(31) as u32) % 32;
@@ -151,7 +164,7 @@ impl Route {
     }
 
     /// E, for any size and length.
-    fn elements(&self) -> u64 {
+    pub fn elements(&self) -> u64 {
         (self.state.vl / (8 << self.size.min(3))).max(1)
     }
 

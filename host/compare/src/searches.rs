@@ -125,8 +125,8 @@ impl Kind for Searches {
         let case = Case::new(number);
         let mut state = ready(random, case.length);
         let (pv, pdn) = case.registers(random);
-        state.p[usize::from(pdn)] = case.cursor(random);
-        state.p[usize::from(pv)] = case.mask(random);
+        states::put(&mut state, pdn, case.cursor(random));
+        states::put(&mut state, pv, case.mask(random));
         (state, encode(&[PNEXT, case.size, pv, pdn, 0, 0, 0, 0, 0]).expect("its fields are in range"))
     }
 

@@ -11,7 +11,7 @@ const EDGES: [u64; 10] =
     [0, 1, 255, 1 << 15, 1 << 31, 1 << 32, 0xFFFF_FFFF_8000_0000, 0xFFFF_FFFF_0000_0000, 1 << 63, u64::MAX];
 
 /// None of the five lengths; the later ones are some of the five with a bit far above.
-const BAD_LENGTHS: [u64; 16] =
+pub const BAD_LENGTHS: [u64; 16] =
     [0, 1, 16, 64, 127, 129, 192, 255, 384, 640, 1920, 2049, 4096, u64::MAX, (1 << 32) + 128, (1 << 63) + 2048];
 
 /// Mostly legal, of level 3, with access.
@@ -36,20 +36,56 @@ pub fn legal(random: &mut Random, vl: u64) -> State {
     for x in &mut state.x {
         *x = operand(random, centre);
     }
-    for p in &mut state.p {
-        *p = predicate(random, vl);
+    for number in 0..16 {
+        put(&mut state, number, predicate(random, vl));
     }
     state.ffr = if random.one_in(4) { run(random.below(vl / 8 + 1)) } else { predicate(random, vl) };
     state
 }
 
+/// Writes a predicate, with its counts. Cases write predicates by this alone, since a state with a wrong count is refused.
+pub fn put(state: &mut State, number: u8, predicate: [u64; 4]) {
+    state.p[usize::from(number)] = predicate;
+    state.counts[usize::from(number)] = counts_of(state.vl, &predicate);
+}
+
+/// The state with its counts worked out.
+pub fn recounted(state: &State) -> State {
+    State { counts: state.p.map(|predicate| counts_of(state.vl, &predicate)), ..state.clone() }
+}
+
+/// A predicate's counts at B, H, S and D, by whole words, at any length: of the bits of whole elements, those that are the
+/// lowest of one.
+pub fn counts_of(vl: u64, predicate: &[u64; 4]) -> [u16; 4] {
+    [0, 1, 2, 3].map(|size| {
+        let bits = (vl / (8 << size)) << size;
+        let lowest = predicate.map(|word| word & elements_of_size(size));
+        cut(lowest, 8 * bits).iter().map(|word| word.count_ones() as u16).sum()
+    })
+}
+
 /// Makes a state illegal in one way; a stray bit needs a length below the largest.
 pub fn spoil(random: &mut Random, state: &mut State) {
-    match random.below(3) {
-        0 => state.vl = random.pick(&BAD_LENGTHS),
+    match random.below(4) {
+        0 => {
+            state.vl = random.pick(&BAD_LENGTHS);
+            *state = recounted(state);
+        }
         1 => state.level = random.pick(&[4, 5, 7, 128, 131, 255]),
-        _ => stray_bit(random, state),
+        2 => stray_bit(random, state),
+        _ => wrong_count(random, state),
     }
+}
+
+/// Makes one count wrong, often by one.
+fn wrong_count(random: &mut Random, state: &mut State) {
+    let count = &mut state.counts[random.index(16)][random.index(4)];
+    *count = match random.below(4) {
+        0 => count.wrapping_add(1),
+        1 => count.wrapping_sub(1),
+        2 => !*count,
+        _ => *count ^ 1 << random.below(16),
+    };
 }
 
 /// Sets a bit at or above PL of one predicate or, more often, of FFR: often the first such bit, or the last.
@@ -71,10 +107,33 @@ fn stray_bit(random: &mut Random, state: &mut State) {
     register[bit / 64] |= 1 << (bit % 64);
 }
 
-/// Whether FFR has a bit at or above PL, and nothing else makes the state illegal.
-pub fn is_illegal_by_ffr(state: &State) -> bool {
+/// A way of being illegal: a length that is none of the five, a level above 3, a bit of a predicate or of FFR at or above PL,
+/// a wrong count.
+#[derive(Clone, Copy, PartialEq, Eq, Debug)]
+pub enum Fault {
+    Length,
+    Level,
+    Predicate,
+    Ffr,
+    Count,
+}
+
+/// All ways in which a state is illegal.
+pub fn faults(state: &State) -> Vec<Fault> {
     let within = |predicate: &[u64; 4]| *predicate == cut(*predicate, state.vl);
-    LENGTHS.contains(&state.vl) && state.level <= 3 && state.p.iter().all(within) && !within(&state.ffr)
+    let faults = [
+        (!LENGTHS.contains(&state.vl), Fault::Length),
+        (state.level > 3, Fault::Level),
+        (!state.p.iter().all(within), Fault::Predicate),
+        (!within(&state.ffr), Fault::Ffr),
+        (state.counts != recounted(state).counts, Fault::Count),
+    ];
+    faults.into_iter().filter(|(holds, _)| *holds).map(|(_, fault)| fault).collect()
+}
+
+/// Whether a state is illegal in this way, and in no other.
+pub fn is_illegal_by(state: &State, fault: Fault) -> bool {
+    faults(state) == [fault]
 }
 
 /// Values near each other, so that counts vary; near the edges; small; with other high words; or anything.
@@ -217,4 +276,41 @@ fn cut(words: [u64; 4], vl: u64) -> [u64; 4] {
         cut[i] = if kept == 64 { word } else { word & ((1 << kept) - 1) };
     }
     cut
+}
+
+#[cfg(test)]
+mod tests {
+    use super::*;
+
+    /// Counted by words as by elements, at every length up to past the longest and at the bad ones.
+    #[test]
+    fn counts_by_words() {
+        for vl in (0..2100).chain(BAD_LENGTHS) {
+            let random = &mut Random::new(1, 0, vl);
+            let mut state = State::zero();
+            state.vl = vl;
+            state.p = [(); 16].map(|()| [(); 4].map(|()| random.next() | random.next()));
+            state.p[3] = [u64::MAX; 4];
+            assert_eq!(recounted(&state), state.counted(), "{vl}");
+        }
+    }
+
+    /// A spoiled state has one fault, but for bits that another length has no room for; each fault is come to alone.
+    #[test]
+    fn spoiled_in_each_way() {
+        let mut alone = Vec::new();
+        for number in 0..2_000 {
+            let random = &mut Random::new(1, 0, number);
+            let vl = random.pick(&LENGTHS);
+            let mut state = legal(random, vl);
+            assert_eq!(faults(&state), []);
+            spoil(random, &mut state);
+            match faults(&state)[..] {
+                [fault] if !alone.contains(&fault) => alone.push(fault),
+                [_] | [Fault::Length, ..] => {}
+                ref others => panic!("{others:?}"),
+            }
+        }
+        assert_eq!(alone.len(), 5, "{alone:?}");
+    }
 }

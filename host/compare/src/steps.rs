@@ -8,7 +8,7 @@ use crate::seen::Seen;
 use compare::counter::Reading;
 use compare::instructions;
 use compare::random::Random;
-use compare::states::{self, LENGTHS};
+use compare::states::{self, Fault, LENGTHS};
 use model::{decode, Flags, Ran, Row, State};
 
 pub struct Steps;
@@ -26,6 +26,7 @@ impl Kind for Steps {
         "bad level",
         "stray bits",
         "stray bits of FFR",
+        "a wrong count",
         "illegal with a foreign word",
         "illegal with an unsupported form",
         "1 at level 0",
@@ -97,11 +98,14 @@ pub fn by_either_way(state: &State, word: u32) -> (Differences, u8, State) {
 }
 
 fn note_illegal(seen: &mut Seen, state: &State, word: u32) {
-    let bad_vl = !LENGTHS.contains(&state.vl);
-    seen.note_if(bad_vl, "bad vl");
-    seen.note_if(state.level > 3, "bad level");
-    seen.note_if(!bad_vl && state.level <= 3, "stray bits");
-    seen.note_if(states::is_illegal_by_ffr(state), "stray bits of FFR");
+    match states::faults(state)[..] {
+        [Fault::Length] => seen.note("bad vl"),
+        [Fault::Level] => seen.note("bad level"),
+        [Fault::Predicate] => seen.note("stray bits"),
+        [Fault::Ffr] => seen.note("stray bits of FFR"),
+        [Fault::Count] => seen.note("a wrong count"),
+        _ => {}
+    }
     let foreign = instructions::is_foreign(word);
     seen.note_if(foreign, "illegal with a foreign word");
     seen.note_if(!foreign && decode(word).is_none(), "illegal with an unsupported form");
@@ -187,6 +191,8 @@ impl Kind for Runs {
         "no words",
         "illegal without words",
         "illegal by FFR",
+        "illegal by a count",
+        "illegal by a count, without words",
         "more than 100 done",
         "refused at the first word",
         "refused at a later word",
@@ -274,7 +280,10 @@ fn note_run(seen: &mut Seen, state: &State, words: &[u32], ran: &Ran) {
     }
     seen.note_if(words.is_empty(), "no words");
     seen.note_if(words.is_empty() && ran.reply == 4, "illegal without words");
-    seen.note_if(states::is_illegal_by_ffr(state), "illegal by FFR");
+    seen.note_if(states::is_illegal_by(state, Fault::Ffr), "illegal by FFR");
+    let by_count = states::is_illegal_by(state, Fault::Count);
+    seen.note_if(by_count, "illegal by a count");
+    seen.note_if(by_count && words.is_empty(), "illegal by a count, without words");
     seen.note_if(ran.refused == 14 && ran.done > 0, "14 after words done");
     seen.note_if(ran.done > 100, "more than 100 done");
     seen.note_if(ran.done == 0 && ran.refused != 0, "refused at the first word");

@@ -1,16 +1,13 @@
 //! States that are illegal by one bit of FFR: each bit at or above PL, in steps, runs, walks and writes.
 
-use crate::boundary;
-use crate::differences::{show_state, show_word, Differences, Outcome};
+use crate::differences::Outcome;
+use crate::illegal::Asked;
 use crate::kind::{Forms, Kind};
-use crate::lent::{byte, whole, Lent};
 use crate::seen::Seen;
-use crate::steps::by_either_way;
 use compare::instructions;
 use compare::random::Random;
-use compare::routes::{route, Bounds, Route};
-use compare::states::{self, LENGTHS};
-use model::State;
+use compare::routes::{route, Bounds};
+use compare::states::{self, Fault, LENGTHS};
 
 const KIND: u64 = 28;
 
@@ -18,19 +15,11 @@ const KIND: u64 = 28;
 const BITS: u64 = 256;
 const DRAWS: u64 = 8;
 
-/// What is asked of the state.
-pub struct Input {
-    route: Route,
-    word: u32,
-    list: Lent<u64>,
-    buffer: Lent<u8>,
-}
-
 /// Each bit of FFR at each length that has it at or above PL.
 pub struct Strays;
 
 impl Kind for Strays {
-    type Input = Input;
+    type Input = Asked;
     const NAME: &'static str = "strays";
     const REPLIES: &'static [u8] = &[4];
     const FORMS: Forms = Forms::None;
@@ -52,7 +41,7 @@ impl Kind for Strays {
         (0..BITS * lengths * DRAWS).filter(|&number| bit_and_length(number).0 >= bit_and_length(number).1 / 8)
     }
 
-    fn make(seed: u64, number: u64) -> Input {
+    fn make(seed: u64, number: u64) -> Asked {
         let random = &mut Random::new(seed, KIND, number);
         let (bit, vl) = bit_and_length(number);
         let mut route = route(random, vl, &Bounds { far: 40, bytes: false });
@@ -60,26 +49,18 @@ impl Kind for Strays {
             route.state.ffr = [0; 4];
         }
         states::flip(&mut route.state.ffr, bit as usize);
-        let list = Lent::new(route.places, random, whole);
-        let buffer = Lent::new(random.index(1000), random, byte);
-        let form = random.index(instructions::FORMS.len());
-        let word = if random.one_in(2) { instructions::any(random) } else { instructions::word_of(random, form) };
-        Input { route, word, list, buffer }
+        Asked::new(random, route)
     }
 
-    fn show(input: &Input) -> String {
-        show_state(&input.route.state) + &show_word(input.word)
+    fn show(asked: &Asked) -> String {
+        asked.show()
     }
 
-    fn compare(input: &Input, seen: &mut Seen) -> Outcome {
-        let state = &input.route.state;
-        let (mut differences, reply, _) = by_either_way(state, input.word);
-        assert!(states::is_illegal_by_ffr(state), "it is illegal by FFR alone");
-        compare_runs(state, input.word, &mut differences);
-        compare_walks(input, &mut differences);
-        compare_writes(input, &mut differences);
+    fn compare(asked: &Asked, seen: &mut Seen) -> Outcome {
+        assert!(states::is_illegal_by(&asked.route.state, Fault::Ffr), "it is illegal by FFR alone");
+        let (differences, reply) = asked.compare();
         seen.reply(reply);
-        note(seen, state, input.word);
+        note(seen, asked);
         differences.outcome()
     }
 }
@@ -89,41 +70,8 @@ fn bit_and_length(number: u64) -> (u64, u64) {
     (number / DRAWS / lengths, LENGTHS[(number / DRAWS % lengths) as usize])
 }
 
-/// Without words, with one, and with several.
-fn compare_runs(state: &State, word: u32, differences: &mut Differences) {
-    for words in [&[][..], &[word], &[word, word, word]] {
-        let (library, second) = (boundary::run(state, words), model::run(state, words));
-        let name = format!("reply, refused and done of a run of {}", words.len());
-        let numbers = |ran: &model::Ran| (ran.reply, ran.refused, ran.done);
-        differences.field(&name, numbers(&library), numbers(&second));
-        differences.field("reply of the second program's run", second.reply, 4);
-        differences.state(&library.state, &second.state);
-    }
-}
-
-fn compare_walks(input: &Input, differences: &mut Differences) {
-    let (mut ours, mut theirs) = (input.list.clone(), input.list.clone());
-    let library = boundary::walk(&input.route, ours.part());
-    let Route { state, size, n, m, d, k, budget, .. } = &input.route;
-    let second = model::walk(state, *size, *n, *m, *d, *k, theirs.part(), *budget);
-    let numbers = |walked: &model::Walked| (walked.reply, walked.count, walked.visited);
-    differences.field("reply, count and visited of a walk", numbers(&library), numbers(&second));
-    differences.field("reply of the second program's walk", second.reply, 4);
-    differences.state(&library.state, &second.state);
-    differences.lent("list", &ours, &theirs);
-}
-
-fn compare_writes(input: &Input, differences: &mut Differences) {
-    let (mut ours, mut theirs) = (input.buffer.clone(), input.buffer.clone());
-    let library = boundary::write(&input.route.state, &[input.word], ours.part());
-    let second = model::write(&input.route.state, &[input.word], theirs.part());
-    differences.field("reply of a write", library.reply, second.reply);
-    differences.field("length of a write", library.length, second.length);
-    differences.field("reply of the second program's write", second.reply, 4);
-    differences.lent("image", &ours, &theirs);
-}
-
-fn note(seen: &mut Seen, state: &State, word: u32) {
+fn note(seen: &mut Seen, asked: &Asked) {
+    let state = &asked.route.state;
     let pl = state.vl as usize / 8;
     let bit = (pl..BITS as usize).find(|bit| state.ffr[bit / 64] >> (bit % 64) & 1 == 1).expect("one is there");
     seen.note_if(bit == pl, "bit PL");
@@ -131,13 +79,9 @@ fn note(seen: &mut Seen, state: &State, word: u32) {
     seen.note_if(bit % 64 == 0, "the first bit of a word");
     seen.note_if(bit % 64 == 63, "the last bit of a word");
     seen.note_if(state.ffr.iter().map(|word| word.count_ones()).sum::<u32>() == 1, "no other bit of FFR");
-    match model::decode(word) {
-        Some([instructions::SETFFR..=instructions::RDFFRS_PG, ..]) => seen.note("a word of FFR's"),
-        Some(_) => {}
-        None => seen.note("a word that is none of ours"),
-    }
-    seen.note_if(state.level == 0, "level 0");
-    seen.note_if(!state.access, "without access");
+    let row = model::decode(asked.word);
+    seen.note_if(matches!(row, Some([instructions::SETFFR..=instructions::RDFFRS_PG, ..])), "a word of FFR's");
+    asked.note(seen);
 }
 
 #[cfg(test)]
@@ -153,7 +97,7 @@ mod tests {
             let (bit, vl) = bit_and_length(number);
             let state = Strays::make(1, number).route.state;
             assert_eq!((state.vl, state.ffr[bit as usize / 64] >> (bit % 64) & 1), (vl, 1));
-            assert!(states::is_illegal_by_ffr(&state));
+            assert!(states::is_illegal_by(&state, Fault::Ffr));
         }
     }
 }

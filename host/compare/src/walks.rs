@@ -7,7 +7,7 @@ use crate::lent::{whole, Lent};
 use crate::seen::Seen;
 use compare::random::Random;
 use compare::routes::{route, Bounds, Route};
-use compare::states::{self, spoil, LENGTHS};
+use compare::states::{self, spoil, Fault, LENGTHS};
 
 pub struct Walks;
 
@@ -49,6 +49,7 @@ impl Kind for Walks {
         "ended after some rounds",
         "spent after some rounds",
         "illegal by FFR",
+        "illegal by a count",
         "FFR not all false",
     ];
 
@@ -90,7 +91,8 @@ impl Kind for Walks {
         differences.state(&library.state, &second.state);
         differences.lent("list", &ours, &theirs);
         seen.reply(second.reply);
-        seen.note_if(states::is_illegal_by_ffr(state), "illegal by FFR");
+        seen.note_if(states::is_illegal_by(state, Fault::Ffr), "illegal by FFR");
+        seen.note_if(states::is_illegal_by(state, Fault::Count), "illegal by a count");
         note_registers(seen, route);
         if !matches!(second.reply, 2 | 3 | 4 | 10) {
             note_ends(seen, route);

@@ -134,7 +134,7 @@ impl Kind for Wrffr {
             Given::Run(_, pn) => pn,
             _ => random.below(16) as u8,
         };
-        state.p[usize::from(pn)] = case.predicate(random);
+        states::put(&mut state, pn, case.predicate(random));
         if matches!(case.given, Given::Any(_)) {
             hinder(random, &mut state);
         }

@@ -7,7 +7,7 @@ use crate::lent::{byte, word, Lent};
 use crate::seen::Seen;
 use compare::damage::{self, Age};
 use compare::random::Random;
-use compare::states;
+use compare::states::{self, Fault};
 use model::State;
 
 pub struct Writes;
@@ -37,6 +37,8 @@ impl Kind for Writes {
         "more words",
         "illegal, too many",
         "illegal by FFR",
+        "illegal by a count",
+        "counts not all 0",
         "FFR not all false",
     ];
 
@@ -119,7 +121,9 @@ fn note(seen: &mut Seen, input: &Input, reply: u8) {
     seen.note_if(reply == 6 && count == 4097, "4,097 words");
     seen.note_if(reply == 6 && count > 4097, "more words");
     seen.note_if(reply == 4 && count > 4096, "illegal, too many");
-    seen.note_if(states::is_illegal_by_ffr(&input.state), "illegal by FFR");
+    seen.note_if(states::is_illegal_by(&input.state, Fault::Ffr), "illegal by FFR");
+    seen.note_if(states::is_illegal_by(&input.state, Fault::Count), "illegal by a count");
+    seen.note_if(reply == 0 && input.state.counts != [[0; 4]; 16], "counts not all 0");
     seen.note_if(reply == 0 && input.state.ffr != [0; 4], "FFR not all false");
     if matches!(reply, 0 | 8) {
         let length = length(&input.state, count);

@@ -98,6 +98,9 @@ fn while_counter(state: &mut State, size: u8, operands: &While, vl: u8, d: u8) {
 }
 
 // ---- counts ----
+//
+// INCP, DECP and the saturating forms may read the counts that the state keeps. Here they are counted anew: in a legal state
+// that is the same.
 
 fn saturating(state: &mut State, size: u8, decrement: bool, unsigned: bool, width: u32, m: u8, dn: u8) {
     let operand1 = int(state.read_x(dn), width, unsigned);

@@ -66,7 +66,8 @@ pub fn sections(image: &[u8]) -> Result<(State, Vec<u32>), u8> {
     read_flags(&mut reader, &mut state)?;
     let words = read_words(&mut reader)?;
     if reader.rest.is_empty() {
-        Ok((state, words))
+        // "The image doesn't carry them; the reader works them out."
+        Ok((state.counted(), words))
     } else {
         Err(TRAILING_BYTES)
     }
@@ -179,7 +180,7 @@ fn read_words(reader: &mut Reader) -> Result<Vec<u32>, u8> {
     Ok(content.chunks(4).map(|bytes| little_endian(bytes) as u32).collect())
 }
 
-/// The image of a legal state: "the writer writes the new kind only".
+/// The image of a legal state: "the writer writes the new kind only", and no counts.
 fn image_of(state: &State, words: &[u32]) -> Vec<u8> {
     let mut image = Vec::new();
     image.extend(SETTINGS.to_le_bytes());

@@ -19,7 +19,12 @@ pub struct State {
     pub p: [[u64; 4]; 16],
     /// "A first-fault predicate (FFR, PL bits)".
     pub ffr: [u64; 4],
+    /// "Beside each P register, its number of true elements at each of the four sizes": B, H, S, D. FFR is no P register.
+    pub counts: [[u16; 4]; 16],
 }
+
+/// The four sizes.
+const SIZES: [u8; 4] = [0, 1, 2, 3];
 
 /// The predicate bits that a state has room for; those at or above PL are zero in a legal one.
 const PREDICATE_BITS: usize = 256;
@@ -47,15 +52,47 @@ impl State {
     /// VL 128 and all else zero.
     pub fn zero() -> State {
         let flags = Flags::default();
-        State { vl: 128, level: 0, access: false, flags, x: [0; 31], p: [[0; 4]; 16], ffr: [0; 4] }
+        let (p, ffr, counts) = ([[0; 4]; 16], [0; 4], [[0; 4]; 16]);
+        State { vl: 128, level: 0, access: false, flags, x: [0; 31], p, ffr, counts }
     }
 
-    /// Whether reply 4 does not refuse it. "Reply 4 covers" FFR's "bits at or above PL" as well.
+    /// Whether reply 4 does not refuse it. "Reply 4 covers" FFR's "bits at or above PL" as well, and "a state handed in with a
+    /// wrong count is refused with 4".
     pub fn legal(&self) -> bool {
         matches!(self.vl, 128 | 256 | 512 | 1024 | 2048)
             && self.level <= 3
             && self.p.iter().all(|predicate| self.is_within_pl(predicate))
             && self.is_within_pl(&self.ffr)
+            && self.counts == self.right_counts()
+    }
+
+    /// The state with its counts worked out, and all else as it is. Any state is taken, also one that is illegal otherwise.
+    pub fn counted(&self) -> State {
+        State { counts: self.right_counts(), ..self.clone() }
+    }
+
+    fn right_counts(&self) -> [[u16; 4]; 16] {
+        self.p.map(|predicate| self.counts_of(&predicate))
+    }
+
+    /// A predicate's counts, one size after the other.
+    fn counts_of(&self, predicate: &[u64; 4]) -> [u16; 4] {
+        SIZES.map(|size| self.count(predicate, size))
+    }
+
+    /// A predicate's number of true elements, counted one by one.
+    fn count(&self, predicate: &[u64; 4], size: u8) -> u16 {
+        let mut count = 0;
+        for e in 0..self.elements(size) {
+            let lowest = e * psize(size);
+            if lowest >= PREDICATE_BITS {
+                break; // of a length past the five: what a state has no room for is false
+            }
+            if bit(predicate, lowest) {
+                count += 1;
+            }
+        }
+        count
     }
 
     fn is_within_pl(&self, predicate: &[u64; 4]) -> bool {
@@ -102,7 +139,13 @@ impl State {
                 set_bit(&mut predicate, e * psize(size));
             }
         }
+        self.set_p(number, predicate);
+    }
+
+    /// "Every instruction that writes a predicate keeps them right": each goes through here, and its counts are counted anew.
+    fn set_p(&mut self, number: u8, predicate: [u64; 4]) {
         self.p[usize::from(number)] = predicate;
+        self.counts[usize::from(number)] = self.counts_of(&predicate);
     }
 
     /// The bits of FFR below PL.
@@ -127,6 +170,6 @@ impl State {
 
     /// "Higher bits are zero".
     pub fn write_counter(&mut self, number: u8, counter: u16) {
-        self.p[usize::from(number)] = [u64::from(counter), 0, 0, 0];
+        self.set_p(number, [u64::from(counter), 0, 0, 0]);
     }
 }

@@ -1,5 +1,5 @@
 //! Document 01's fourteen examples, its program, and the errors that it has seen made; predicate logic; counters read; foreign
-//! words and unsupported forms; the first-fault register.
+//! words and unsupported forms; the first-fault register; the counts that a state keeps.
 
 use model::*;
 use std::fs;
@@ -25,7 +25,14 @@ fn ready() -> State {
 
 /// VL 128, all else zero.
 fn nothing() -> State {
-    State { vl: 128, level: 0, access: false, flags: Flags::default(), x: [0; 31], p: [[0; 4]; 16], ffr: [0; 4] }
+    let (flags, p, counts) = (Flags::default(), [[0; 4]; 16], [[0; 4]; 16]);
+    State { vl: 128, level: 0, access: false, flags, x: [0; 31], p, ffr: [0; 4], counts }
+}
+
+/// Writes a predicate, with its counts.
+fn put(state: &mut State, number: usize, predicate: [u64; 4]) {
+    state.p[number] = predicate;
+    *state = state.counted();
 }
 
 fn nzc(n: u8, z: u8, c: u8) -> Flags {
@@ -63,7 +70,7 @@ fn while_counter(size: u8, [u, lt, eq]: [u8; 3], first: u64, second: u64) -> (u6
 fn saturated(d: u8, u: u8, sf: u8, value: u64, mask: u64) -> u64 {
     let mut state = ready();
     state.x[0] = value;
-    state.p[0] = low(mask);
+    put(&mut state, 0, low(mask));
     do_step(&mut state, &[3, B, d, u, sf, 0, 0]);
     state.x[0]
 }
@@ -81,7 +88,7 @@ fn cntp_counter(size: u8, vl: u8, counter: u64) -> u64 {
 
 fn cntp_counter_at(length: u64, size: u8, vl: u8, counter: u64) -> u64 {
     let mut state = State { vl: length, ..ready() };
-    state.p[1] = low(counter);
+    put(&mut state, 1, low(counter));
     do_step(&mut state, &[6, size, vl, 1, 0]);
     state.x[0]
 }
@@ -112,11 +119,11 @@ fn examples_7_to_9_counters() {
 #[test]
 fn examples_10_and_11_pnext() {
     let mut state = ready();
-    state.p[1] = low(0x0024);
+    put(&mut state, 1, low(0x0024));
     assert_eq!(pnext(&mut state, B), (0x0004, nzc(1, 0, 1)));
     assert_eq!(pnext(&mut state, B), (0x0020, nzc(0, 0, 0)));
     assert_eq!(pnext(&mut state, B), (0x0000, nzc(0, 1, 1)));
-    state.p[1] = low(0x0022);
+    put(&mut state, 1, low(0x0022));
     assert_eq!(pnext(&mut state, S), (0x0000, nzc(0, 1, 1)));
 }
 
@@ -125,7 +132,7 @@ fn examples_12_and_13_counts() {
     assert_eq!(saturated(1, 0, 0, 0xffff_ffff_8000_0001, 0b111), 0xffff_ffff_8000_0000);
     let mut state = ready();
     state.x[0] = u64::MAX;
-    state.p[0] = low(0b11);
+    put(&mut state, 0, low(0b11));
     do_step(&mut state, &[4, B, 0, 0, 0]);
     assert_eq!(state.x[0], 1);
 }
@@ -189,10 +196,12 @@ fn counters_read() {
 #[test]
 fn a_counter_read_at_another_length() {
     let mut state = ready();
-    (state.x[0], state.p[8]) = (7, low(0x0081));
+    state.x[0] = 7;
+    put(&mut state, 8, low(0x0081));
     do_step(&mut state, &[6, B, 1, 8, 0]);
     assert_eq!(state.x[0], 0);
-    (state.vl, state.x[2], state.p[8]) = (256, 64, low(0));
+    (state.vl, state.x[2]) = (256, 64);
+    put(&mut state, 8, low(0));
     do_step(&mut state, &[2, B, 2, 1, 0, 1, 1, 0, 0]); // WHILELT pn8.b, x1, x2, four vectors
     assert_eq!(state.p[8], low(0x0081));
     do_step(&mut state, &[6, B, 1, 8, 0]);
@@ -247,7 +256,8 @@ fn bits_past_the_end_of_a_count() {
 #[test]
 fn masks() {
     let mut state = ready();
-    (state.p[0], state.p[1]) = (low(0x8001), low(0x0024));
+    put(&mut state, 0, low(0x8001));
+    put(&mut state, 1, low(0x0024));
     do_step(&mut state, &[8, 1, 0]); // PFIRST P0 under P1
     assert_eq!((state.p[0], state.flags), (low(0x8005), nzc(1, 0, 1)));
     do_step(&mut state, &[9, 1, 0]); // PTEST
@@ -291,10 +301,10 @@ fn refusals_of_a_step_in_their_order() {
     let word = 0x25a2_1c20; // WHILELO p0.s, x1, x2: level 1
     let mut state = ready();
     (state.level, state.access) = (0, false);
-    state.p[15] = low(0x1_0000);
+    put(&mut state, 15, low(0x1_0000));
     assert!(none_of_ours().all(|(word, _)| step(&mut state.clone(), word) == 4));
     assert_eq!(run(&state, &[]).reply, 4);
-    state.p[15] = low(0);
+    put(&mut state, 15, low(0));
     assert!(none_of_ours().all(|(word, reply)| step(&mut state.clone(), word) == reply));
     assert_eq!(step(&mut state, word), 2);
     state.level = 1;
@@ -370,7 +380,7 @@ fn truth_table() -> State {
     let mut state = ready();
     (state.p[1], state.p[2], state.p[3], state.p[4]) = (low(0xf0), low(0xcc), low(0xaa), low(0xffff));
     state.flags = Flags { n: true, z: true, c: false, v: true };
-    state
+    state.counted()
 }
 
 /// The operation on P1 (Pg), P2 (Pn) and P3 (Pm), written to Pd.
@@ -387,7 +397,7 @@ fn logic_without_flags() {
     for operation in operations() {
         for pd in [0, 1, 2, 3, 4] {
             let mut expected = truth_table();
-            expected.p[usize::from(pd)] = low(operation.result);
+            put(&mut expected, usize::from(pd), low(operation.result));
             assert_eq!(operate(&operation, 0, pd), expected);
         }
     }
@@ -400,7 +410,7 @@ fn logic_with_flags() {
         let Some(flags) = operation.flags else { continue };
         for pd in [0, 1, 2, 3, 4] {
             let mut expected = truth_table();
-            expected.p[usize::from(pd)] = low(operation.result);
+            put(&mut expected, usize::from(pd), low(operation.result));
             expected.flags = flags;
             assert_eq!(operate(&operation, 1, pd), expected);
         }
@@ -418,7 +428,8 @@ fn logic_under_an_empty_and_a_full_mask() {
         assert_eq!((state.p[0], state.flags), (low(result), flags));
     }
     let mut state = truth_table();
-    (state.vl, state.p[4]) = (2048, [u64::MAX; 4]);
+    state.vl = 2048;
+    put(&mut state, 4, [u64::MAX; 4]);
     do_step(&mut state, &[11, 1, 1, 5, 4, 1, 5, 0, 0]); // NORS of empty ones
     assert_eq!((state.p[0], state.flags), ([u64::MAX; 4], nzc(1, 0, 0)));
     let mut state = truth_table();
@@ -485,7 +496,7 @@ fn bits(low: usize, high: usize) -> [u64; 4] {
 /// WRFFR of P7 that holds this, at a length: the reply and the state after it.
 fn wrffr(length: u64, predicate: [u64; 4]) -> (u8, State) {
     let mut state = State { vl: length, flags: truth_table().flags, ffr: bits(3, 9), ..ready() };
-    state.p[7] = predicate;
+    put(&mut state, 7, predicate);
     let reply = step(&mut state, 0x2528_9000 + 7 * 32);
     (reply, state)
 }
@@ -509,7 +520,7 @@ fn wrffr_takes_a_run_of_ones() {
         for end in 0..=pl {
             let (reply, state) = wrffr(length, bits(0, end));
             let mut expected = State { vl: length, flags: truth_table().flags, ffr: bits(0, end), ..ready() };
-            expected.p[7] = bits(0, end);
+            put(&mut expected, 7, bits(0, end));
             assert_eq!((reply, state), (0, expected));
         }
         for end in 2..=pl {
@@ -517,7 +528,8 @@ fn wrffr_takes_a_run_of_ones() {
                 let (reply, state) = wrffr(length, bits(start, end)); // bit 0 among those that are false
                 assert_eq!((reply, state.ffr, state.flags), (14, bits(3, 9), truth_table().flags));
                 let hole = [0, 1, 2, 3].map(|i| bits(0, end)[i] & !bits(start - 1, start)[i]);
-                assert_eq!((wrffr(length, hole).0, wrffr(length, hole).1.p[7]), (14, hole));
+                let (reply, state) = wrffr(length, hole);
+                assert_eq!((reply, state.p[7]), (14, hole));
             }
         }
     }
@@ -529,13 +541,13 @@ fn rdffr_with_and_without_a_mask() {
     let mut state = State { ffr: low(0x3c), ..truth_table() };
     let mut expected = state.clone();
     do_step(&mut state, &[RDFFR, 9]);
-    expected.p[9] = low(0x3c);
+    put(&mut expected, 9, low(0x3c));
     assert_eq!(state, expected);
     do_step(&mut state, &[RDFFR_PG, 1, 8]); // P1 is F0
-    expected.p[8] = low(0x30);
+    put(&mut expected, 8, low(0x30));
     assert_eq!(state, expected);
     do_step(&mut state, &[RDFFR_PG, 1, 1]);
-    expected.p[1] = low(0x30);
+    put(&mut expected, 1, low(0x30));
     assert_eq!(state, expected);
 }
 
@@ -545,7 +557,7 @@ fn rdffrs_sets_flags() {
     let flags = |mask: u64, ffr: u64| {
         let [other, same] = [2, 1].map(|pd| {
             let mut state = State { ffr: low(ffr), ..truth_table() };
-            state.p[1] = low(mask);
+            put(&mut state, 1, low(mask));
             do_step(&mut state, &[RDFFRS_PG, 1, pd]);
             assert_eq!((state.p[usize::from(pd)], state.ffr), (low(mask & ffr), low(ffr)));
             state.flags
@@ -565,7 +577,7 @@ fn rdffrs_sets_flags() {
 fn refusals_of_the_words_of_ffr() {
     let words = [0x252c_9000, 0x2528_90e0, 0x2519_f000, 0x2518_f000, 0x2558_f000]; // the second is WRFFR p7.b
     let mut state = ready();
-    state.p[7] = low(0b101);
+    put(&mut state, 7, low(0b101));
     assert_eq!(words.map(|word| step(&mut state.clone(), word)), [0, 14, 0, 0, 0]);
     assert_eq!(words.map(|word| step(&mut State { level: 1, ..state.clone() }, word)), [0, 14, 0, 0, 0]);
     assert_eq!(words.map(|word| step(&mut State { access: false, ..state.clone() }, word)), [3; 5]);
@@ -754,7 +766,8 @@ fn images_read_as_written() {
     assert_eq!(image_of(&ready(), &[]).len(), 313);
     let mut state = ready();
     (state.vl, state.x[30], state.flags.v) = (2048, 0x0123_4567_89ab_cdef, true);
-    (state.p[15], state.ffr) = ([1, 2, 3, u64::MAX], [u64::MAX, 5, 6, 1 << 63]);
+    state.ffr = [u64::MAX, 5, 6, 1 << 63];
+    put(&mut state, 15, [1, 2, 3, u64::MAX]);
     let image = image_of(&state, &[5; 4096]);
     assert_eq!(image.len(), LARGEST);
     let mut words = [9; 4097];
@@ -817,5 +830,171 @@ fn old_images() {
             let section = [&[count, 0, 0, 0][..], &vec![0; usize::from(count) * bytes]].concat();
             assert_eq!(read(&[&old[..p_end], &section, &old[p_end..]].concat(), &mut [0; 3]).reply, 6);
         }
+    }
+}
+
+// ---- the counts ----
+
+/// A state with each predicate of another shape, none of them empty, and an FFR that has no counts.
+fn busy(length: u64) -> State {
+    let pl = length as usize / 8;
+    let mut state = State { vl: length, ffr: bits(0, pl), flags: truth_table().flags, ..ready() };
+    for number in 0..16 {
+        state.p[number] = bits(number % 9, pl - number % 5);
+    }
+    state.counted()
+}
+
+/// "Its number of true elements at each of the four sizes", as they are after each instruction that writes a predicate.
+#[test]
+fn each_write_keeps_the_counts() {
+    let mut state = busy(128);
+    (state.x[1], state.x[2]) = (10, 13);
+    do_step(&mut state, &[0, S, 2, 1, 1, 1, 1, 0, 4]); // WHILELO p4.s, x1, x2
+    assert_eq!((state.p[4], state.counts[4]), (low(0x0111), [3, 3, 3, 2]));
+    (state.x[1], state.x[2]) = (3, 2);
+    do_step(&mut state, &[1, D, 2, 1, 0, 1, 0, 1]); // WHILEHI p0.d and p1.d, x1, x2
+    assert_eq!((state.p[0], state.p[1]), (low(0), low(0x0100)));
+    assert_eq!((state.counts[0], state.counts[1]), ([0; 4], [1; 4]));
+    do_step(&mut state, &[2, S, 2, 0, 0, 1, 31, 1, 0]); // WHILELE pn8.s, xzr, x2: a counter's bits are elements as others
+    assert_eq!((state.p[8], state.counts[8]), (low(0x001c), [3, 2, 1, 0]));
+    put(&mut state, 5, low(0x0024));
+    put(&mut state, 6, low(0));
+    do_step(&mut state, &[7, B, 5, 6]); // PNEXT p6.b, p5, p6.b
+    assert_eq!((state.p[6], state.counts[6]), (low(0x0004), [1, 1, 0, 0]));
+    put(&mut state, 6, low(0x8001));
+    do_step(&mut state, &[8, 5, 6]); // PFIRST p6.b, p5, p6.b
+    assert_eq!((state.p[6], state.counts[6]), (low(0x8005), [3, 2, 1, 1]));
+    do_step(&mut state, &[10, 6]); // PFALSE p6.b
+    assert_eq!((state.p[6], state.counts[6]), (low(0), [0; 4]));
+    do_step(&mut state, &[11, 0, 0, 4, 4, 0, 4, 0, 7]); // AND p7.b, p4/z, p4.b, p4.b
+    assert_eq!((state.p[7], state.counts[7]), (low(0x0111), [3, 3, 3, 2]));
+    for (row, number) in [([RDFFR, 9, 0], 9), ([RDFFR_PG, 7, 10], 10), ([RDFFRS_PG, 7, 11], 11)] {
+        let (result, counts) = if number == 9 { (0xffff, [16, 8, 4, 2]) } else { (0x0111, [3, 3, 3, 2]) };
+        do_step(&mut state, &row);
+        assert_eq!((state.p[number], state.counts[number]), (low(result), counts));
+    }
+}
+
+/// An instruction that writes no predicate leaves the counts; each leaves those of other registers.
+#[test]
+fn other_counts_stay() {
+    for length in LENGTHS {
+        let state = busy(length);
+        for row in
+            [&[4, B, 0, 3, 0][..], &[5, B, 3, 3, 0], &[9, 3, 3], SETFFR, &[3, D, 1, 1, 1, 3, 0], &[6, B, 1, 3, 0]]
+        {
+            let mut stepped = state.clone();
+            do_step(&mut stepped, row);
+            assert_eq!((stepped.p, stepped.counts), (state.p, state.counts));
+        }
+        let mut stepped = state.clone();
+        do_step(&mut stepped, &[10, 15]); // PFALSE p15.b
+        let mut counts = state.counts;
+        counts[15] = [0; 4];
+        assert_eq!(stepped.counts, counts);
+    }
+}
+
+/// "INCP, DECP and the saturating forms read them".
+#[test]
+fn counts_are_what_incp_adds() {
+    for length in LENGTHS {
+        for (number, size) in (0..16).flat_map(|number| [B, H, S, D].map(|size| (number, size))) {
+            let mut state = busy(length);
+            let count = u64::from(state.counts[usize::from(number)][usize::from(size)]);
+            assert!(count > 0, "none is empty");
+            do_step(&mut state, &[4, size, 0, number, 7]); // INCP
+            assert_eq!(state.x[7], count);
+            do_step(&mut state, &[4, size, 1, number, 6]); // DECP
+            assert_eq!(state.x[6], count.wrapping_neg());
+            do_step(&mut state, &[3, size, 1, 1, 1, number, 7]); // UQDECP
+            do_step(&mut state, &[5, size, number, number, 5]); // CNTP under its own mask
+            assert_eq!((state.x[7], state.x[5]), (0, count));
+        }
+    }
+}
+
+/// "A state handed in with a wrong count is refused with 4", by one count of one register at one size; nothing is changed.
+#[test]
+fn a_wrong_count_is_refused() {
+    for (length, number, size) in
+        LENGTHS.into_iter().flat_map(|length| (0..64).map(move |count| (length, count / 4, count % 4)))
+    {
+        let right = busy(length);
+        let count = right.counts[number][size];
+        assert_eq!(run(&right, &[]).reply, 0);
+        for wrong in [count + 1, count - 1, 0, u16::MAX, count ^ 1 << 8] {
+            let mut state = right.clone();
+            state.counts[number][size] = wrong;
+            let given = state.clone();
+            assert_eq!((step(&mut state, 0x2518_e400), step(&mut state, 0)), (4, 4));
+            assert_eq!(state, given);
+            for words in [&[][..], &[0x2518_e400]] {
+                let ran = run(&state, words);
+                assert_eq!((ran.reply, ran.refused, ran.done, ran.state), (4, 0, 0, given.clone()));
+            }
+            let mut list = [7; 3];
+            let walked = walk(&state, 0, 1, 2, 3, 4, &mut list, 9);
+            assert_eq!((walked.reply, walked.count, walked.visited, walked.state), (4, 0, 0, given.clone()));
+            let mut image = [7; 1000];
+            let written = write(&state, &[], &mut image);
+            assert_eq!((written.reply, written.length, image, list), (4, 0, [7; 1000], [7; 3]));
+            assert_eq!(given.counted(), right);
+        }
+    }
+}
+
+/// Of the bits at or above PL none counts, whatever the length is; there are vl / 8 / psize elements, rounded down.
+#[test]
+fn counts_at_any_length() {
+    let at = |vl: u64, predicate: [u64; 4]| {
+        let mut state = State { vl, level: 9, ffr: [5; 4], counts: [[7; 4]; 16], ..truth_table() };
+        state.p = [predicate; 16];
+        let counted = state.counted();
+        let counts = counted.counts[0];
+        assert_eq!(counted, State { counts: [counts; 16], ..state });
+        counts
+    };
+    let full = [u64::MAX; 4];
+    for vl in [0, 1, 7] {
+        assert_eq!(at(vl, full), [0; 4]);
+    }
+    assert_eq!(at(8, full), [1, 0, 0, 0]);
+    assert_eq!((at(127, full), at(128, full)), ([15, 7, 3, 1], [16, 8, 4, 2]));
+    assert_eq!((at(129, full), at(192, full)), ([16, 8, 4, 2], [24, 12, 6, 3]));
+    for vl in [2048, 2049, 4096, 1 << 63, u64::MAX] {
+        assert_eq!(at(vl, full), [256, 128, 64, 32]);
+        assert_eq!(at(vl, [0, 0, 0, 1 << 63]), [1, 0, 0, 0]);
+        assert_eq!(at(vl, [0, 0, 1 << 8, 1 << 62]), [2, 2, 1, 1]);
+    }
+    assert_eq!((at(512, [0, 1, 0, 0]), at(520, [0, 1, 0, 0])), ([0; 4], [1, 0, 0, 0]));
+    // bit 64
+}
+
+/// "A walk, finished or spent" leaves right counts, whatever instruction was its last.
+#[test]
+fn a_walk_keeps_the_counts() {
+    for (length, budget) in LENGTHS.into_iter().flat_map(|length| (0..40).map(move |budget| (length, budget))) {
+        let mut state = busy(length);
+        (state.x[1], state.x[2]) = (100, 120);
+        let walked = walk(&state, 3, 1, 2, 4, 5, &mut [0; 20], budget);
+        assert!(matches!(walked.reply, 0 | 12));
+        assert_eq!(walked.state, walked.state.counted());
+    }
+    let (walked, _) = walk_s(10, 13, 4); // PFALSE, WHILELO, PNEXT, PNEXT
+    assert_eq!((walked.state.counts[3], walked.state.counts[4]), ([3, 3, 3, 2], [1, 1, 1, 0]));
+}
+
+/// "The image doesn't carry them; the reader works them out."
+#[test]
+fn an_image_has_no_counts() {
+    for length in LENGTHS {
+        let state = busy(length);
+        let image = image_of(&state, &[1, 2, 3]);
+        assert_eq!(image.len(), 279 + length as usize / 4 + length as usize / 64 + 12);
+        let reading = read(&image, &mut [0; 3]);
+        assert_eq!((reading.reply, reading.state), (0, state));
+        assert_eq!(read(&image[1..], &mut [0; 3]).state.counts, [[0; 4]; 16]);
     }
 }

@@ -55,8 +55,8 @@ pub struct Reading {
     pub state: State,
 }
 
-/// Reads an image, and puts its words at the front of `words`; other places stay. An image of the older kind, without FFR,
-/// gives one that is all false.
+/// Reads an image, and puts its words at the front of `words`; other places stay. An image has no counts: those of the state
+/// are worked out. One of the older kind, without FFR, gives one that is all false.
 /// Refusals: 5 and 6 by the first section at fault, then 7, then 8.
 ///
 /// ```
@@ -83,7 +83,7 @@ pub struct Written {
     pub length: usize,
 }
 
-/// Writes the image of a state, with its FFR, and of words at the front of `image`; other bytes stay.
+/// Writes the image of a state, with its FFR and without its counts, and of words at the front of `image`; other bytes stay.
 /// Refusals: 4, then 6 (more than 4,096 words), then 8.
 ///
 /// ```

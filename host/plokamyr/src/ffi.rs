@@ -3,7 +3,7 @@
 //! Each call is safe if what the header asks of a caller is there: pointers valid for their counts, buffers that do not
 //! overlap, bools of 0 or 1. A `bool` of Rust is one, and the library hands back no other.
 
-use crate::{Flags, Predicate, Reply, State};
+use crate::{Counts, Flags, Predicate, Reply, State};
 use std::mem::{align_of, size_of};
 use std::ptr::addr_of_mut;
 
@@ -44,6 +44,9 @@ pub type RawRow = [u8; 9];
 /// P0 to P15 and then FFR.
 pub type Predicates = [Predicate; 17];
 
+/// Those of P0 to P15; FFR has none.
+pub type AllCounts = [Counts; 16];
+
 /// What the walk is told beside state, list and budget.
 #[derive(Clone, Copy)]
 pub struct Route {
@@ -56,13 +59,14 @@ pub struct Route {
 
 // Where the fields lie, the tests below say.
 const _: () = {
-    assert!(size_of::<Predicate>() == 32 && size_of::<Flags>() == 4);
-    assert!(size_of::<State>() == 808 && align_of::<State>() == 8);
-    assert!(size_of::<Ran>() == 16 && size_of::<Walked>() == 832);
-    assert!(size_of::<Reading>() == 824 && size_of::<Written>() == 16);
+    assert!(size_of::<Predicate>() == 32 && size_of::<Flags>() == 4 && size_of::<Counts>() == 8);
+    assert!(size_of::<State>() == 936 && align_of::<State>() == 8);
+    assert!(size_of::<Ran>() == 16 && size_of::<Walked>() == 960);
+    assert!(size_of::<Reading>() == 952 && size_of::<Written>() == 16);
 };
 
 extern "C" {
+    fn plokamyr_counted(state: State) -> State;
     fn plokamyr_step_parts(
         vl: u64,
         level: u8,
@@ -70,6 +74,7 @@ extern "C" {
         flags: *mut Flags,
         x: *mut [u64; 31],
         p: *mut Predicates,
+        counts: *mut AllCounts,
         word: u32,
     ) -> Number;
     fn plokamyr_step_lent(state: *mut State, word: u32) -> Number;
@@ -80,6 +85,7 @@ extern "C" {
         flags: *mut Flags,
         x: *mut [u64; 31],
         p: *mut Predicates,
+        counts: *mut AllCounts,
         words: *const u32,
         count: usize,
     ) -> Ran;
@@ -101,20 +107,28 @@ extern "C" {
     fn plokamyr_encode(row: *const RawRow, word: *mut u32) -> Number;
 }
 
-/// What a step or a run is lent of a state: its flags, its X, and its P with FFR. Each pointer is derived from the one to the
-/// whole state, so that the last may reach past `p` to `ffr`, which lies right after it.
-fn parts(state: &mut State) -> (*mut Flags, *mut [u64; 31], *mut Predicates) {
+pub fn counted(state: &State) -> State {
+    // SAFETY: the state is a copy, and any is taken.
+    unsafe { plokamyr_counted(state.clone()) }
+}
+
+/// What a step or a run is lent of a state: its flags, its X, its P with FFR, and its counts. Each pointer is derived from the
+/// one to the whole state, so that the third may reach past `p` to `ffr`, which lies right after it.
+fn parts(state: &mut State) -> (*mut Flags, *mut [u64; 31], *mut Predicates, *mut AllCounts) {
     let state: *mut State = state;
     // SAFETY: the state is valid, and its parts are named by their places alone: no reference to one is made.
-    unsafe { (addr_of_mut!((*state).flags), addr_of_mut!((*state).x), addr_of_mut!((*state).p).cast()) }
+    unsafe {
+        let (flags, x) = (addr_of_mut!((*state).flags), addr_of_mut!((*state).x));
+        (flags, x, addr_of_mut!((*state).p).cast(), addr_of_mut!((*state).counts))
+    }
 }
 
 pub fn step(state: &mut State, word: u32) -> Reply {
     let State { vl, level, access, .. } = *state;
-    let (flags, x, p) = parts(state);
+    let (flags, x, p, counts) = parts(state);
     // SAFETY: the parts are lent for writing and for this call alone, lie apart, and have C's layout. `p` and `ffr` are
     // seventeen predicates one after the other, and the pointer to them comes from that to the state that holds both.
-    Reply::from_number(unsafe { plokamyr_step_parts(vl, level, access, flags, x, p, word) })
+    Reply::from_number(unsafe { plokamyr_step_parts(vl, level, access, flags, x, p, counts, word) })
 }
 
 pub fn step_lent(state: &mut State, word: u32) -> Reply {
@@ -124,9 +138,9 @@ pub fn step_lent(state: &mut State, word: u32) -> Reply {
 
 pub fn run(state: &mut State, words: &[u32]) -> Ran {
     let State { vl, level, access, .. } = *state;
-    let (flags, x, p) = parts(state);
+    let (flags, x, p, counts) = parts(state);
     // SAFETY: the slice is readable for its length; of the parts the same holds as for a step.
-    unsafe { plokamyr_run_parts(vl, level, access, flags, x, p, words.as_ptr(), words.len()) }
+    unsafe { plokamyr_run_parts(vl, level, access, flags, x, p, counts, words.as_ptr(), words.len()) }
 }
 
 pub fn walk(state: &State, route: Route, list: &mut [u64], budget: u64) -> Walked {
@@ -179,8 +193,11 @@ mod tests {
         assert_eq!((at(&state, &state.vl), at(&state, &state.level), at(&state, &state.access)), (0, 8, 9));
         assert_eq!((at(&state, &state.flags), at(&state, &state.x)), (10, 16));
         assert_eq!((at(&state, &state.p), at(&state, &state.ffr)), (264, 264 + 16 * 32));
+        assert_eq!(at(&state, &state.counts), 264 + 17 * 32);
         let Flags { n, z, c, v } = &state.flags;
         assert_eq!([n, z, c, v].map(|flag| at(&state.flags, flag)), [0, 1, 2, 3]);
+        let Counts { b, h, s, d } = &state.counts[0];
+        assert_eq!([b, h, s, d].map(|count| at(&state.counts[0], count)), [0, 2, 4, 6]);
     }
 
     #[test]

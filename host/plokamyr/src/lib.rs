@@ -28,4 +28,4 @@ mod state;
 pub use calls::{read, text, text_in, walk, write, Reading, Walked, Written, IMAGE_MAX, TEXT_MAX, WORDS_MAX};
 pub use reply::Reply;
 pub use row::{decode, encode, Form, Row};
-pub use state::{Flags, Predicate, Ran, State};
+pub use state::{Counts, Flags, Predicate, Ran, State};

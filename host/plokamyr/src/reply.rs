@@ -41,7 +41,8 @@ pub enum Reply {
     LevelTooLow,
     /// 3.
     AccessOff,
-    /// 4: `vl` is none of the five, `level` is above 3, or a predicate or FFR has a bit at or above `vl / 8`.
+    /// 4: the vector length is none of the five, `level` is above 3, a predicate or FFR has a bit at or above an eighth of the
+    /// length, or a count is wrong.
     IllegalState,
     /// 5: the image ends before a section does.
     ImageCut,
@@ -104,7 +105,7 @@ impl Reply {
             Reply::ForeignWord => (1, "word is foreign: its bits 31:24 are not 00100101"),
             Reply::LevelTooLow => (2, "level is below what the instruction asks"),
             Reply::AccessOff => (3, "access is off"),
-            Reply::IllegalState => (4, "vector length, level, a predicate or FFR of the state is not allowed"),
+            Reply::IllegalState => (4, "vector length, level, a predicate, FFR or a count of the state is not allowed"),
             Reply::ImageCut => (5, "image ends before a section does"),
             Reply::NotAllowed => (6, "count or byte of an image is not allowed"),
             Reply::TrailingBytes => (7, "image goes on after its last section"),

@@ -175,11 +175,11 @@ fn operations() {
         let row = Row::new(Form::Logic, &[bits[0], 0, 3, 1, bits[1], 2, bits[2], 4]).expect("the form's own fields");
         let mut state = State::new(128, 1);
         let combinations = [0xF0, 0xCC, 0xAA].map(Predicate::from); // all of three bits, and none above
-        state.p[1..4].copy_from_slice(&combinations);
+        (1..4).zip(combinations).for_each(|(number, p)| state.set_p(number, p));
         assert_eq!(state.step(encode(row).expect("each has a word without S")), Reply::Done);
         for bit in 0..16 {
             let [g, n, m] = combinations.map(|p| p.bit(bit));
-            assert_eq!(state.p[4].bit(bit), result(g, n, m), "{entry}, {bit}");
+            assert_eq!(state.p()[4].bit(bit), result(g, n, m), "{entry}, {bit}");
         }
     }
 }
@@ -192,7 +192,7 @@ fn counts() {
     for (vl, last) in [(128, 6), (256, 7), (512, 8), (1024, 9), (2048, 10)] {
         let counted = |bit: u32| {
             let mut state = State::new(vl, 3);
-            state.p[8] = Predicate::from(1 << bit | 1);
+            state.set_p(8, Predicate::from(1 << bit | 1));
             assert_eq!(state.step(cntp), Reply::Done);
             state.x[0]
         };

@@ -1,6 +1,7 @@
 //! The numbers here are those of `include/plokamyr.h`, read from it. `PLOKAMYR_INCLUDE` is its folder if it lies elsewhere.
 
-use plokamyr::{Form, Reply, IMAGE_MAX, TEXT_MAX, WORDS_MAX};
+use plokamyr::{Form, Reply, State, IMAGE_MAX, TEXT_MAX, WORDS_MAX};
+use std::mem::size_of;
 use std::path::PathBuf;
 use std::{env, fs};
 
@@ -59,6 +60,13 @@ fn fields() {
         let names = form.field_names().join(", ");
         assert!(header.contains(&names), "{form:?}: {names}");
     }
+}
+
+/// The size that the header asserts of a state, for C and for C++.
+#[test]
+fn size_of_a_state() {
+    let asserted = format!("sizeof(struct plokamyr_state) == {},", size_of::<State>());
+    assert_eq!(header().matches(&asserted).count(), 2);
 }
 
 #[test]

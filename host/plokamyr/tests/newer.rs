@@ -1,7 +1,7 @@
 //! The wrapper over a library that is newer than it. `tests/newer/run` links one that answers with the numbers that it is
 //! told, and runs these; over any other they mean nothing.
 
-use plokamyr::{decode, encode, read, text, walk, write, Form, Reply, Row, State};
+use plokamyr::{decode, encode, read, text, walk, write, Form, Predicate, Reply, Row, State};
 
 /// Every number that has a name here, and some that have none.
 fn numbers() -> impl Iterator<Item = u32> {
@@ -29,6 +29,24 @@ fn a_reply_is_handed_on() {
         expect(write(&state, &[number], &mut []).reply, number);
     }
     assert_eq!(text(b"0 25104441 99 0000\n"), b"0 25104441 99 0000\n");
+}
+
+/// The setters have the counts from the library, and count nothing themselves.
+#[test]
+#[ignore = "for tests/newer/run"]
+fn counts_are_handed_on() {
+    for (register, number) in (0..16).cycle().zip(numbers()) {
+        let mut state = State::new(number.into(), 1);
+        state.set_p(register, Predicate::from(1));
+        let set = state.clone();
+        state.set_all_p(*set.p());
+        assert_eq!((&state, &state.counted()), (&set, &set));
+        state.set_vl(u64::from(number) + 1);
+        for size in 0..4 {
+            assert_eq!(set.count(register, size), number as u16);
+            assert_eq!(state.count(register, size), (number as u16).wrapping_add(1));
+        }
+    }
 }
 
 #[test]

@@ -18,7 +18,7 @@ fn state() -> State {
     let mut state = State::new(128, 1);
     state.x[1] = 10;
     state.x[2] = 13;
-    state.p[5] = Predicate::from(0x00A5);
+    state.set_p(5, Predicate::from(0x00A5));
     state
 }
 
@@ -58,9 +58,9 @@ fn steps() {
     }
     expect_refused(&changed(|state| state.level = 0), PFALSE, Reply::LevelTooLow);
     expect_refused(&changed(|state| state.access = false), PFALSE, Reply::AccessOff);
-    expect_refused(&changed(|state| state.vl = 384), PFALSE, Reply::IllegalState);
+    expect_refused(&changed(|state| state.set_vl(384)), PFALSE, Reply::IllegalState);
     expect_refused(&changed(|state| state.level = 4), PFALSE, Reply::IllegalState);
-    let past = changed(|state| state.p[15] = Predicate::from(0x1_0000));
+    let past = changed(|state| state.set_p(15, Predicate::from(0x1_0000)));
     expect_refused(&past, PFALSE, Reply::IllegalState);
     let past = changed(|state| state.ffr = Predicate::from(0x1_0000));
     expect_refused(&past, PFALSE, Reply::IllegalState);
@@ -79,7 +79,7 @@ fn writes_to_ffr() {
     expect_no_run(&state(), &[WRFFR, PFALSE], Reply::Done, Reply::NotMonotonic);
     let runs = (0..=16).map(|length| (1 << length) - 1);
     for run in runs.map(Predicate::from) {
-        let mut stepped = changed(|state| state.p[5] = run);
+        let mut stepped = changed(|state| state.set_p(5, run));
         let mut expected = stepped.clone();
         expected.ffr = run;
         assert_eq!(stepped.step(WRFFR), Reply::Done);
@@ -93,7 +93,7 @@ fn reads_of_ffr() {
     let mut state = changed(|state| state.ffr = Predicate::from(0x00FF));
     let words = [0x2519_F001, 0x2518_F0A2, 0x2558_F0A3, 0x252C_9000]; // RDFFR p1; p2 and p3 under p5; SETFFR
     let mut expected = state.clone();
-    expected.p[1..4].copy_from_slice(&[0x00FF, 0x00A5, 0x00A5].map(Predicate::from));
+    (1..4).zip([0x00FF, 0x00A5, 0x00A5]).for_each(|(number, low)| expected.set_p(number, Predicate::from(low)));
     (expected.ffr, expected.flags.n) = (Predicate::from(0xFFFF), true);
     assert_eq!(parts(state.run(&words)), (Reply::Done, Reply::Done, 4));
     assert_eq!(state, expected);
@@ -108,7 +108,7 @@ fn runs() {
     expect_no_run(&changed(|state| state.level = 0), &[PFALSE], Reply::Done, Reply::LevelTooLow);
     expect_no_run(&changed(|state| state.access = false), &[PFALSE], Reply::Done, Reply::AccessOff);
     for words in [&[][..], &[PFALSE], &[0], &[0x2500_0000]] {
-        expect_no_run(&changed(|state| state.vl = 384), words, Reply::IllegalState, Reply::Done);
+        expect_no_run(&changed(|state| state.set_vl(384)), words, Reply::IllegalState, Reply::Done);
         expect_no_run(&changed(|state| state.level = 4), words, Reply::IllegalState, Reply::Done);
     }
 }
@@ -121,7 +121,7 @@ fn a_refused_word_keeps_those_before_it() {
         assert_eq!(parts(ran.run(&words)), (Reply::Done, reply, 2));
         assert!(words[..2].iter().all(|&word| stepped.step(word) == Reply::Done));
         assert!(words[..2].iter().all(|&word| lent.step_lent(word) == Reply::Done));
-        assert_eq!((ran.p[0], ran.p[5]), (Predicate::from(0x0111), Predicate::default()));
+        assert_eq!((ran.p()[0], ran.p()[5]), (Predicate::from(0x0111), Predicate::default()));
         assert_eq!((&ran, &ran), (&stepped, &lent));
     }
 }
@@ -155,7 +155,7 @@ fn a_spent_budget_keeps_its_work() {
     let mut list = [0; 3];
     let walked = walk(&state(), 0, 1, 2, 3, 4, &mut list, 4);
     assert_eq!((walked.reply, walked.count, walked.visited, list), (Reply::BudgetSpent, 4, 2, [10, 11, 0]));
-    assert_eq!(walked.state.p[4], Predicate::from(0b10));
+    assert_eq!(walked.state.p()[4], Predicate::from(0b10));
 }
 
 #[test]
@@ -204,7 +204,7 @@ fn writes() {
         assert_eq!((written.reply, written.length), (reply, 0));
         assert!(image.iter().all(|byte| *byte == 7));
     };
-    expect(&changed(|state| state.vl = 0), 5000, 0, Reply::IllegalState);
+    expect(&changed(|state| state.set_vl(0)), 5000, 0, Reply::IllegalState);
     expect(&state(), 4097, 0, Reply::NotAllowed);
     expect(&state(), 0, 312, Reply::BufferTooSmall);
     expect(&state(), 0, 0, Reply::BufferTooSmall);

@@ -10,18 +10,18 @@ run-requires c κs = search needs
 number-requires : tie.Need-number-requires
 number-requires c κs = search needs
 
-cast-t18 : tie.Need-cast-t18
-cast-t18 c = search needs
+cast-t21 : tie.Need-cast-t21
+cast-t21 c = search needs
 
 number-requires-2 : tie.Need-number-requires-2
 number-requires-2 c κs = search needs
 
-cast-t20 : tie.Need-cast-t20
-cast-t20 c = search needs
+cast-t23 : tie.Need-cast-t23
+cast-t23 c = search needs
 
 returns : tie.Need-returns
 returns c = search (ran, needs) depth 9
 
 pub plokamyr-run-parts-spec : {M : Type 1} → statement M
 plokamyr-run-parts-spec =
-    tie.close (tie.spec run-requires number-requires cast-t18 number-requires-2 cast-t20 returns)
+    tie.close (tie.spec run-requires number-requires cast-t21 number-requires-2 cast-t23 returns)

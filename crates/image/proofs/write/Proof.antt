@@ -13,7 +13,7 @@ use Rattle.image.proofs.write.Statement.{statement}
 use Rattle.image.proofs.write.Tie as tie
 
 ok : (c : tie.Start) → Sized (c .args .state)
-ok c = record { xs = search needs; ps = search (needs, length-mapped) }
+ok c = record { xs = search needs; ps = search (needs, length-mapped); cs = search (needs, length-mapped) }
 
 is-lawful : (c : tie.Else1) → legal (c .before .before .before .before .args .state) ≡ true
 is-lawful c = lawful _ _ (c .before .is-legal .ensures) (c .if1 .left)

@@ -1,6 +1,6 @@
 -- `compute` meets its contract. Assumes nothing.
 use Rattle.instructions.specs.Instructions.{computeOf}
-use Rattle.instructions.proofs.Effects.{by-form}
+use Rattle.instructions.proofs.Effects.{by-form, by-count, by-saturating}
 use borrow.Author.Needs.{needs}
 use Rattle.instructions.proofs.compute.Statement.{statement}
 use Rattle.instructions.proofs.compute.Tie as tie
@@ -14,11 +14,17 @@ while-target-requires c κs = search needs
 enum-known-i-2 : tie.Need-enum-known-i-2
 enum-known-i-2 c = search needs
 
+at-requires : tie.Need-at-requires
+at-requires c κs = search needs
+
 saturating-requires : tie.Need-saturating-requires
 saturating-requires c κs = search needs
 
 enum-known-i-3 : tie.Need-enum-known-i-3
 enum-known-i-3 c = search needs
+
+at-requires-2 : tie.Need-at-requires-2
+at-requires-2 c κs = search needs
 
 inc-dec-requires : tie.Need-inc-dec-requires
 inc-dec-requires c κs = search needs
@@ -101,11 +107,11 @@ returns c = search (by-form, needs) depth 9
 
 returns-2 : tie.Need-returns-2
 unfolding computeOf
-returns-2 c = search (by-form, needs) depth 9
+returns-2 c = search (by-saturating, needs) depth 9
 
 returns-3 : tie.Need-returns-3
 unfolding computeOf
-returns-3 c = search (by-form, needs) depth 9
+returns-3 c = search (by-count, needs) depth 9
 
 returns-4 : tie.Need-returns-4
 unfolding computeOf
@@ -162,8 +168,10 @@ compute-spec =
     enum-known-i
     while-target-requires
     enum-known-i-2
+    at-requires
     saturating-requires
     enum-known-i-3
+    at-requires-2
     inc-dec-requires
     enum-known-i-4
     cntp-requires

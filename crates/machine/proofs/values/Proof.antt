@@ -19,6 +19,9 @@ read-p-requires-2 c κs = search needs
 read-p-requires-3 : tie.Need-read-p-requires-3
 read-p-requires-3 c κs = search needs
 
+read-counts-requires : tie.Need-read-counts-requires
+read-counts-requires c κs = search needs
+
 returns : tie.Need-returns
 returns c = search (values-are, needs) depth 9
 
@@ -31,4 +34,5 @@ values-spec =
     read-p-requires
     read-p-requires-2
     read-p-requires-3
+    read-counts-requires
     returns)

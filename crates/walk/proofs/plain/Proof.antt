@@ -57,7 +57,7 @@ size-at c = c .before .before .size-of .result
 
 -- nothing is refused
 typed : (st : tie.Start Inv-loop μ-loop) → Typed (st .args .start)
-typed st = record { xs = search needs; ps = search (needs, length-mapped); fits = search (needs, x-fits) }
+typed st = record { xs = search needs; ps = search (needs, length-mapped); cs = search (needs, length-mapped); fits = search (needs, x-fits) }
 
 within : (c : tie.After-live Inv-loop μ-loop) → let a = entry c .args in Within (size-at c) (a .n) (a .m) (a .d) (a .k) (a .start) (now (a .list))
 within c =

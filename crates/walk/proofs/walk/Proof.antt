@@ -15,7 +15,7 @@ abbrev passed : tie.After-slice-known2 → tie.Else1
 passed c = c .before .before .before .before
 
 typed : (st : tie.Start) → Typed (st .args .state)
-typed st = record { xs = search needs; ps = search (needs, length-mapped); fits = search (needs, x-fits) }
+typed st = record { xs = search needs; ps = search (needs, length-mapped); cs = search (needs, length-mapped); fits = search (needs, x-fits) }
 
 refusal-requires : tie.Need-refusal-requires
 refusal-requires c κs = search needs

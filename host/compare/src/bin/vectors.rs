@@ -286,9 +286,9 @@ fn search(file: &mut File, random: &mut Random, vl: u64, size: u8) {
     let mut words = Vec::new();
     for active in sparse(random, vl, size) {
         let pv = registers.next().expect("there are enough");
-        state.p[usize::from(pv)] = states::with_elements(random, vl, size, &active);
+        states::put(&mut state, pv, states::with_elements(random, vl, size, &active));
         for (steps, pdn) in (1..active.len() + 2).zip(&mut registers) {
-            state.p[usize::from(pdn)] = states::with_elements(random, vl, size, &[]);
+            states::put(&mut state, pdn, states::with_elements(random, vl, size, &[]));
             let pnext = model::encode(&[instructions::PNEXT, size, pv, pdn, 0, 0, 0, 0, 0]);
             words.extend(vec![pnext.expect("its fields are in range"); steps]);
         }
@@ -345,8 +345,8 @@ fn ffr_words(file: &mut File, random: &mut Random, vl: u64) {
     state.ffr = states::shaped(random, vl, states::Shape::Dense);
     let first = random.below(16);
     let [mask, run, a, b, c, d] = [0, 1, 2, 3, 4, 5].map(|i| ((first + i) % 16) as u8);
-    state.p[usize::from(mask)] = states::shaped(random, vl, states::Shape::Dense);
-    state.p[usize::from(run)] = states::run(random.below(vl / 8 + 1));
+    states::put(&mut state, mask, states::shaped(random, vl, states::Shape::Dense));
+    states::put(&mut state, run, states::run(random.below(vl / 8 + 1)));
     let words = [
         short_word(RDFFRS_PG, &[mask, a]),
         short_word(RDFFR, &[b]),
@@ -364,9 +364,8 @@ fn write_of_no_run(file: &mut File, random: &mut Random, vl: u64, (_, level, acc
     let mut state = states::legal(random, vl);
     (state.level, state.access) = (level, access);
     let pn = random.below(16) as u8;
-    let predicate = &mut state.p[usize::from(pn)];
-    while states::is_run(predicate) {
-        *predicate = states::near_run(random, vl);
+    while states::is_run(&state.p[usize::from(pn)]) {
+        states::put(&mut state, pn, states::near_run(random, vl));
     }
     let words = [short_word(SETFFR, &[]), short_word(WRFFR, &[pn]), short_word(RDFFR, &[pn])];
     let first = if level > 0 && access { 0 } else { 1 };

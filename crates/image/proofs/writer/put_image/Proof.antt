@@ -32,7 +32,7 @@ abbrev start : tie.After-put-numbers → tie.Start
 start c = c .before .before .before .before .before .before .before
 
 ok : (c : tie.Start) → Sized (c .args .state)
-ok c = record { xs = search needs; ps = search (needs, length-mapped) }
+ok c = record { xs = search needs; ps = search (needs, length-mapped); cs = search (needs, length-mapped) }
 
 -- the image has room for all sections
 room : (c : tie.Start) → (4 + 3 * 1) + ((4 + 31 * 8) + ((4 + 16 * (c .args .state .vl / 64)) + ((4 + 1 * (c .args .state .vl / 64)) + ((4 + 4 * 1) + (4 + length (c .args .words .now) * 4))))) ≤ length (c .args .image .now)

@@ -1,16 +1,11 @@
 -- `inc_dec` meets its contract. Assumes nothing.
-use mathlib.Core.Path.{ap, _∙_}
-use Prim.Native.Nat.{ℕ, _+_, _-_, _%_, _^_}
-use borrow.Author.Needs.{needs}
-use Rattle.bits.specs.Choice.{pick}
+use native.Mathlib.Omega.{arith}
 use Rattle.instructions.specs.Counts.{incDecOf}
 use Rattle.instructions.proofs.Effects.{x-is}
-use Rattle.instructions.proofs.SearchLaws.{count-small, dec-is, inc-is}
+use Rattle.instructions.proofs.SearchLaws.{dec-is, inc-is}
+use borrow.Author.Needs.{needs}
 use Rattle.instructions.proofs.counts.inc_dec.Statement.{statement}
 use Rattle.instructions.proofs.counts.inc_dec.Tie as tie
-
-count-active-requires : tie.Need-count-active-requires
-count-active-requires c κs = search needs
 
 wrapping-sub-u64-requires : tie.Need-wrapping-sub-u64-requires
 wrapping-sub-u64-requires c κs = search needs
@@ -21,11 +16,9 @@ gives-x-requires c κs = search needs
 returns : tie.Need-returns
 unfolding incDecOf
 returns c =
-    let s = c .before .before .before .before in
-    let n = c .before .before .before .count-active .ensures in
+    let s = c .before .before .before in
     x-is _ _ _ (c .gives-x .ensures)
-    (dec-is (s .args .decrement) (s .args .rdn) _ _ (c .before .before .if1 .taken) (count-small (s .args .vl) (s .args .size) (s .args .pm) _ n) (s .fits .rdn .fits) (c .before .wrapping-sub-u64 .ok) (c .before .wrapping-sub-u64 .ensures)
-    ∙ ap (λ (y : ℕ). pick (s .args .decrement) ((s .args .rdn + (2 ^ 64 - y)) % 2 ^ 64) ((s .args .rdn + y) % 2 ^ 64)) n)
+    (dec-is (s .args .decrement) (s .args .rdn) (s .args .n) _ (c .before .before .if1 .taken) (search needs) (s .fits .rdn .fits) (c .before .wrapping-sub-u64 .ok) (c .before .wrapping-sub-u64 .ensures))
 
 wrapping-add-u64-requires : tie.Need-wrapping-add-u64-requires
 wrapping-add-u64-requires c κs = search needs
@@ -36,17 +29,13 @@ gives-x-requires-2 c κs = search needs
 returns-2 : tie.Need-returns-2
 unfolding incDecOf
 returns-2 c =
-    let s = c .before .before .before .before in
-    let n = c .before .before .before .count-active .ensures in
-    x-is _ _ _ (c .gives-x2 .ensures)
-    (inc-is (s .args .decrement) (s .args .rdn) _ _ (c .before .before .if1 .left) (c .before .wrapping-add-u64 .ensures)
-    ∙ ap (λ (y : ℕ). pick (s .args .decrement) ((s .args .rdn + (2 ^ 64 - y)) % 2 ^ 64) ((s .args .rdn + y) % 2 ^ 64)) n)
+    let s = c .before .before .before in
+    x-is _ _ _ (c .gives-x2 .ensures) (inc-is (s .args .decrement) (s .args .rdn) (s .args .n) _ (c .before .before .if1 .left) (c .before .wrapping-add-u64 .ensures))
 
 pub inc-dec-spec : {M : Type 1} → statement M
 inc-dec-spec =
     tie.close
     (tie.spec
-    count-active-requires
     wrapping-sub-u64-requires
     gives-x-requires
     returns

@@ -1,7 +1,7 @@
 -- `attempt` meets its contract. Assumes nothing.
+use borrow.Author.Needs.{needs}
 use Rattle.machine.proofs.Executing.{executes-in}
 use Rattle.machine.proofs.Steps.{replied-in, stops, goes}
-use borrow.Author.Needs.{needs}
 use Rattle.machine.proofs.engine.attempt.Statement.{statement}
 use Rattle.machine.proofs.engine.attempt.Tie as tie
 
@@ -26,6 +26,9 @@ same-length c = search needs
 same-length-2 : tie.Need-same-length-2
 same-length-2 c = search needs
 
+same-length-3 : tie.Need-same-length-3
+same-length-3 c = search needs
+
 returns : tie.Need-returns
 returns c = search (stops, replied-in, needs) depth 9
 
@@ -35,11 +38,14 @@ compute-requires c κs = search needs
 write-requires : tie.Need-write-requires
 write-requires c κs = search needs
 
-same-length-3 : tie.Need-same-length-3
-same-length-3 c = search needs
-
 same-length-4 : tie.Need-same-length-4
 same-length-4 c = search needs
+
+same-length-5 : tie.Need-same-length-5
+same-length-5 c = search needs
+
+same-length-6 : tie.Need-same-length-6
+same-length-6 c = search needs
 
 returns-2 : tie.Need-returns-2
 returns-2 c = search (goes, replied-in, executes-in, needs) depth 9
@@ -55,9 +61,11 @@ attempt-spec =
     is-done-requires
     same-length
     same-length-2
+    same-length-3
     returns
     compute-requires
     write-requires
-    same-length-3
     same-length-4
+    same-length-5
+    same-length-6
     returns-2)

@@ -25,6 +25,9 @@ same-length c = search needs
 same-length-2 : tie.Need-same-length-2
 same-length-2 c = search needs
 
+same-length-3 : tie.Need-same-length-3
+same-length-3 c = search needs
+
 returns-2 : tie.Need-returns-2
 returns-2 c = search (word-ours, needs) depth 9
 
@@ -39,4 +42,5 @@ next-spec =
     returns
     same-length
     same-length-2
+    same-length-3
     returns-2)

@@ -22,6 +22,9 @@ same-length c = search needs
 same-length-2 : tie.Need-same-length-2
 same-length-2 c = search needs
 
+same-length-3 : tie.Need-same-length-3
+same-length-3 c = search needs
+
 returns : tie.Need-returns
 returns c = search (written, needs) depth 9
 
@@ -35,4 +38,5 @@ write-spec =
     put-p-requires-2
     same-length
     same-length-2
+    same-length-3
     returns)

@@ -1,43 +1,46 @@
--- `State::is_legal` meets its contract: some predicate has a stray bit exactly if their union has one. Assumes nothing.
-use mathlib.Core.Bool.{not}
-use mathlib.Core.Path.{ap, _∙_}
-use Prim.Native.Nat.{ℕ}
-use Rattle.predicates.specs.Predicate.{hasBitFrom}
-use Rattle.registers.proofs.Legality.{not-allowed, allowed, stray-union}
+-- `State::is_legal` meets its contract: it is that of its parts. Assumes nothing.
 use borrow.Author.Needs.{needs}
+use mathlib.Core.Path.{refl, ap, _∙_}
+use mathlib.Core.List.{[], _∷_}
+use Rattle.registers.specs.Legal.{legal}
+use Rattle.registers.proofs.PartLaws.{parts-are}
 use Rattle.registers.proofs.State.is_legal.Statement.{statement}
 use Rattle.registers.proofs.State.is_legal.Tie as tie
 
-settings-allowed-requires : tie.Need-settings-allowed-requires
-settings-allowed-requires c κs = search needs
+settings-requires : tie.Need-settings-requires
+settings-requires c κs = search needs
+
+words-of-requires : tie.Need-words-of-requires
+words-of-requires c κs = search needs
+
+numbers-of-requires : tie.Need-numbers-of-requires
+numbers-of-requires c κs = search needs
+
+slice-aggregate-is-legal : tie.Need-slice-aggregate-is-legal
+slice-aggregate-is-legal c = search needs
+
+slice-aggregate-is-legal-2 : tie.Need-slice-aggregate-is-legal-2
+slice-aggregate-is-legal-2 c = search needs
+
+is-legal-requires : tie.Need-is-legal-requires
+is-legal-requires c κs = search needs
 
 returns : tie.Need-returns
-returns c = search (needs, not-allowed)
-
-union-requires : tie.Need-union-requires
-union-requires c κs = search needs
-
-predicate-length-requires : tie.Need-predicate-length-requires
-predicate-length-requires c κs = search needs
-
-is-within-requires : tie.Need-is-within-requires
-is-within-requires c κs = search needs
-
-returns-2 : tie.Need-returns-2
-returns-2 c =
-    let e = c .before .before .before .before in
-    let s = e .before .before .args .self in
-    c .is-within .ensures
-    ∙ ap not (ap (λ (pl : ℕ). hasBitFrom pl (c .before .before .union .result)) (c .before .predicate-length .ensures) ∙ stray-union s _ (c .before .before .union .ensures))
-    ∙ allowed s _ (e .before .settings-allowed .ensures) (e .if1 .left)
+returns c =
+    let n = c .before .before .before in
+    let w = n .before .before in
+    let s = w .before .before .before .args .self in
+    c .is-legal .ensures (s .flags .n ∷ s .flags .z ∷ s .flags .c ∷ s .flags .v ∷ []) (s .x)
+    ∙ ap legal (parts-are s _ _ _ _ (w .before .before .settings .ensures) refl (w .words-of .ensures) (n .numbers-of .ensures))
 
 pub is-legal-spec : {M : Type 1} → statement M
 is-legal-spec =
     tie.close
     (tie.spec
-    settings-allowed-requires
-    returns
-    union-requires
-    predicate-length-requires
-    is-within-requires
-    returns-2)
+    settings-requires
+    words-of-requires
+    numbers-of-requires
+    slice-aggregate-is-legal
+    slice-aggregate-is-legal-2
+    is-legal-requires
+    returns)

@@ -1,25 +1,46 @@
 -- `put_p` meets its contract. Assumes nothing.
-use native.Mathlib.Omega.{arith}
-use denote.Ref.{now}
-use Rattle.registers.proofs.PartLaws.{write-in, write-out}
 use borrow.Author.Needs.{needs}
+use Rattle.registers.proofs.PartLaws.{counts-written, counts-write-out}
 use Rattle.registers.proofs.parts.put_p.Statement.{statement}
 use Rattle.registers.proofs.parts.put_p.Tie as tie
 
-mul-words : tie.Need-mul-words
-mul-words c = search needs
+put-words-requires : tie.Need-put-words-requires
+put-words-requires c κs = search needs
 
-slice-set-from-words : tie.Need-slice-set-from-words
-slice-set-from-words c = search needs
+of-requires : tie.Need-of-requires
+of-requires c κs = search needs
+
+mul-numbers : tie.Need-mul-numbers
+mul-numbers c = search needs
+
+slice-set-from-numbers : tie.Need-slice-set-from-numbers
+slice-set-from-numbers c = search needs
 
 same-length : tie.Need-same-length
 same-length c = search needs
 
+same-length-2 : tie.Need-same-length-2
+same-length-2 c = search needs
+
 returns : tie.Need-returns
-returns c = write-in (now (c .before .before .args .p)) (c .before .before .args .r) (c .before .before .args .q)
+returns c = search (counts-written, needs) depth 9
+
+same-length-3 : tie.Need-same-length-3
+same-length-3 c = search needs
 
 returns-2 : tie.Need-returns-2
-returns-2 c = write-out (now (c .before .args .p)) (c .before .args .r) (c .before .args .q) (omega arith)
+returns-2 c = search (counts-write-out, needs) depth 9
 
 pub put-p-spec : {M : Type 1} → statement M
-put-p-spec = tie.close (tie.spec mul-words slice-set-from-words same-length returns returns-2)
+put-p-spec =
+    tie.close
+    (tie.spec
+    put-words-requires
+    of-requires
+    mul-numbers
+    slice-set-from-numbers
+    same-length
+    same-length-2
+    returns
+    same-length-3
+    returns-2)

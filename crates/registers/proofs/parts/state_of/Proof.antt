@@ -10,11 +10,12 @@ flags-of-requires c κs = search needs
 predicates-of-requires : tie.Need-predicates-of-requires
 predicates-of-requires c κs = search needs
 
-new-requires : tie.Need-new-requires
-new-requires c κs = search needs
+counts-of-requires : tie.Need-counts-of-requires
+counts-of-requires c κs = search needs
 
 returns : tie.Need-returns
 returns c = search (state-made, needs) depth 9
 
 pub state-of-spec : {M : Type 1} → statement M
-state-of-spec = tie.close (tie.spec flags-of-requires predicates-of-requires new-requires returns)
+state-of-spec =
+    tie.close (tie.spec flags-of-requires predicates-of-requires counts-of-requires returns)

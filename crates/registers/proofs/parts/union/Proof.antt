@@ -2,18 +2,20 @@
 use mathlib.Core.Path.{_≡_, ap, _∙_}
 use Prim.Native.Nat.{_≤_, _-_}
 use native.Mathlib.Omega.{arith}
+use lib.ListN.{length}
 use denote.Ref.{now}
 use borrow.Author.Needs.{needs}
 use Rattle.registers.proofs.Legality.{unionOf, union-none, union-more}
+use Rattle.registers.proofs.PartLaws.{predicates-length, read-in}
 use Rattle.registers.specs.Parts.{predicatesOf}
 use Rattle.registers.proofs.parts.union.Statement.{statement}
 use Rattle.registers.proofs.parts.union.Tie as tie
 
 abbrev Inv-loop : tie.InvT-loop
-Inv-loop p q₀ i₀ q i = (i ≤ 17) × (q ≡ unionOf (predicatesOf p) i)
+Inv-loop p q₀ i₀ q i = (i ≤ length p) × (q ≡ unionOf (predicatesOf p) i)
 
 abbrev μ-loop : tie.MeasureT-loop
-μ-loop p q₀ i₀ q i = 17 - i
+μ-loop p q₀ i₀ q i = length p - i
 
 none-requires : tie.Need-none-requires Inv-loop μ-loop
 none-requires c κs = search needs
@@ -21,8 +23,11 @@ none-requires c κs = search needs
 loop-holds : tie.Need-loop-holds Inv-loop μ-loop
 loop-holds c = (omega arith, c .none .ensures ∙ union-none (predicatesOf (now (c .before .args .p))))
 
-p-at-requires : tie.Need-p-at-requires Inv-loop μ-loop
-p-at-requires c κs = search needs
+mul-words : tie.Need-mul-words Inv-loop μ-loop
+mul-words c = search needs
+
+shared-slice-copy-out-words : tie.Need-shared-slice-copy-out-words Inv-loop μ-loop
+shared-slice-copy-out-words c = search needs
 
 or-requires : tie.Need-or-requires Inv-loop μ-loop
 or-requires c κs = search needs
@@ -34,10 +39,15 @@ loop-less : tie.Need-loop-less Inv-loop μ-loop
 loop-less c = search needs
 
 loop-again : tie.Need-loop-again Inv-loop μ-loop
-loop-again c = (omega arith, union-more (predicatesOf (now (c .before .before .before .before .before .args .p))) (c .before .before .before .loop .i) _ _ _ (c .before .p-at .ensures) (c .before .before .before .loop .inv .1) (c .or .ensures))
+loop-again c =
+    let l = c .before .before .before .loop in
+    let p = now (c .before .before .before .before .before .args .p) in
+    (omega arith, union-more (predicatesOf p) (l .i) _ _ _ (read-in p (l .i) (omega arith)) (l .inv .1) (c .or .ensures))
 
 returns : tie.Need-returns Inv-loop μ-loop
-returns c = let e : c .before .loop .i ≡ 17 = omega arith in c .before .loop .inv .1 ∙ ap (unionOf (predicatesOf (now (c .before .before .before .args .p)))) e
+returns c =
+    let p = now (c .before .before .before .args .p) in
+    c .before .loop .inv .1 ∙ ap (unionOf (predicatesOf p)) (omega (arith, predicates-length p))
 
 pub union-spec : {M : Type 1} → statement M
 union-spec =
@@ -47,7 +57,8 @@ union-spec =
     μ-loop
     none-requires
     loop-holds
-    p-at-requires
+    mul-words
+    shared-slice-copy-out-words
     or-requires
     add-i
     loop-less

@@ -1,0 +1,66 @@
+-- `numbers_of` meets its contract. Assumes nothing.
+use mathlib.Core.Path.{_≡_, refl, sym, ap, _∙_}
+use Prim.Native.Nat.{_≤_, _-_}
+use native.Mathlib.Omega.{arith}
+use lib.ListN.{length, take, length-set}
+use borrow.Author.Needs.{needs}
+use Rattle.tally.specs.Counts.{noCounts}
+use Rattle.registers.specs.Parts.{countsFrom}
+use Rattle.registers.proofs.Registers.{length-mapped, default-any}
+use Rattle.registers.proofs.PartLaws.{counts-length, counts-in, copied-all, copied-more, numbers-more}
+use Rattle.registers.proofs.parts.numbers_of.Statement.{statement}
+use Rattle.registers.proofs.parts.numbers_of.Tie as tie
+
+abbrev Inv-loop : tie.InvT-loop
+Inv-loop counts r₀ i₀ r i = (i ≤ 16) × (length r ≡ 16) × (length counts ≡ 16) × (take i (countsFrom r) ≡ take i counts)
+
+abbrev μ-loop : tie.MeasureT-loop
+μ-loop counts r₀ i₀ r i = 16 - i
+
+loop-holds : tie.Need-loop-holds Inv-loop μ-loop
+loop-holds c = (omega arith, refl, search (needs, length-mapped), refl)
+
+mul-c : tie.Need-mul-c Inv-loop μ-loop
+mul-c c = search needs
+
+array-copy-out-c : tie.Need-array-copy-out-c Inv-loop μ-loop
+array-copy-out-c c = search needs
+
+mul-r : tie.Need-mul-r Inv-loop μ-loop
+mul-r c = search needs
+
+array-set-from-r : tie.Need-array-set-from-r Inv-loop μ-loop
+array-set-from-r c = search needs
+
+add-i : tie.Need-add-i Inv-loop μ-loop
+add-i c = search needs
+
+loop-less : tie.Need-loop-less Inv-loop μ-loop
+loop-less c = search needs
+
+loop-again : tie.Need-loop-again Inv-loop μ-loop
+loop-again c =
+    let l = c .before .before .loop in
+    let p = c .before .before .before .args .t1 in
+    (omega arith, simp length-set (l .inv .1), l .inv .2, numbers-more (l .r) p (l .i) _ (omega arith) (omega arith) (default-any p (l .i) _ noCounts (omega arith)) (l .inv .3))
+
+returns : tie.Need-returns Inv-loop μ-loop
+returns c =
+    let l = c .before .loop in
+    copied-all (countsFrom (l .r)) (c .before .before .args .t1) (l .i) (omega (arith, counts-length (l .r))) (omega arith) (l .inv .3)
+
+pub numbers-of-spec : {M : Type 1} → statement M
+numbers-of-spec =
+    tie.close
+    (tie.spec
+    Inv-loop
+    μ-loop
+    loop-holds
+    mul-c
+    array-copy-out-c
+    mul-r
+    array-set-from-r
+    add-i
+    loop-less
+    loop-again
+    returns)
