@@ -148,6 +148,13 @@ by-tallies s b w r u pl hb n hu hp hw m hr =
     eight : (q : ℕ) → 16 * q % 8 ≡ 0
     eight q = omega arith
 
+-- the same of the parts of a state
+pub by-numbers : (s : State) (b w r : Bool) (u : Predicate) (pl : ℕ) (p c : List (List ℕ)) → b ≡ settingsAllowed (s .vl) (s .level) → not b ≡ false
+    → u ≡ pack (λ k. some (λ i. bitAt (readP s i) k) (length (s .p))) → pl ≡ predicateLength (s .vl) → w ≡ not (hasBitFrom pl u) → not w ≡ false → predicatesOf p ≡ s .p → countsFrom c ≡ s .counts
+    → r ≡ not (some (unlike (leb pl 64) (predicatesOf p) (countsFrom c)) (min (length (predicatesOf p)) (length (countsFrom c)))) → r ≡ legal s
+by-numbers s b w r u pl p c hb n hu hp hw m ep ec hr =
+    by-tallies s b w r u pl hb n hu hp hw m (hr ∙ ap₂ (λ (ps : List Predicate) (cs : List Counts). not (some (unlike (leb pl 64) ps cs) (min (length ps) (length cs)))) ep ec)
+
 -- ---- predicates copied one by one
 
 module _ {A : Type 0} where

@@ -4,6 +4,9 @@
 // X31, and any number past the last register, reads as zero or all false, and a write to it vanishes. A state is legal unless its vector length is none of the five, its level is above 3,
 // a predicate has a bit at or above VL/8, or a count is wrong: reply 4 refuses it. State's methods take the state by value and return it; `parts` has the same over registers lent one by one.
 ghost use mathlib.Core.Path.{_≡_};
+ghost use lib.ListN.{getD, length};
+ghost use Rattle.bits.specs.Search.{some};
+ghost use Rattle.predicates.specs.Predicate.{bitAt, pack, allFalse};
 ghost use Rattle.registers.specs.State.{allCounts, made, counted, readX, readP, readCounts, withX, withP, withFlags};
 ghost use Rattle.registers.specs.Parts.{settingsOf};
 ghost use Rattle.registers.specs.Legal.{isLength, settingsAllowed, legal};
@@ -127,10 +130,9 @@ impl State {
         ensures { λ s. ⌜ s ≡ withP self r q ⌝ }
     {
         let i = r as usize;
-        if PREDICATES <= i {
-            return self;
+        if i < PREDICATES {
+            self.p[i] = q;
         }
-        self.p[i] = q;
         if i < COUNTED {
             self.counts[i] = Counts::of(q, self.vl);
         }
@@ -145,16 +147,22 @@ impl State {
         self
     }
 
-    // Whether reply 4 does not refuse the state.
+    // Whether reply 4 does not refuse the state. The predicates are joined first, so that one test of stray bits serves all; the counts are compared as those of lent registers are.
     pub fn is_legal(self) -> bool
         ensures { λ r. ⌜ r ≡ legal self ⌝ }
     {
-        let settings = self.settings();
+        if !settings_allowed(self.vl, self.level) {
+            return false;
+        }
+        let pl = predicates::predicate_length(self.vl);
         let held = self.p;
+        if !union(held).is_within(pl) {
+            return false;
+        }
         let p = parts::words_of(held);
         let kept = self.counts;
         let counts = parts::numbers_of(kept);
-        parts::is_legal(settings, &p, &counts)
+        parts::counts_agree(&p, &counts, pl <= 64)
     }
 }
 
@@ -185,6 +193,20 @@ pub fn settings_allowed(vl: u64, level: u8) -> bool
         return false;
     }
     level <= 3
+}
+
+// The bits that any of the predicates has.
+fn union(p: [Predicate; PREDICATES]) -> Predicate
+    ensures { λ q. ⌜ q ≡ pack (λ b. some (λ r. bitAt (getD p r allFalse) b) (length p)) ⌝ }
+{
+    let mut q = Predicate::none();
+    let mut i = 0;
+    while i < PREDICATES {
+        let next = p[i];
+        q = next.or(q);
+        i += 1;
+    }
+    q
 }
 
 // The counts of P0 to P15.

@@ -148,8 +148,9 @@ fn difference(q: Predicate, c: Counts, low: bool) -> u64
     tally::tally_in(tally::planes_of(q)) ^ c.packed()
 }
 
-// Whether the counts are those of the predicates that they stand beside. No test in the loop depends on a register, so that it is compiled to two registers at a time.
-fn counts_agree(p: &[[u64; 4]], counts: &[[u16; 4]], low: bool) -> bool
+// Whether the counts are those of the predicates that they stand beside; `low` goes by the first word of each alone. No test in the loop depends on a register, so that it is compiled to two registers
+// at a time.
+pub fn counts_agree(p: &[[u64; 4]], counts: &[[u16; 4]], low: bool) -> bool
     ensures { λ r. ⌜ r ≡ not (some (λ i. not (sameCounts (countsIn (tallyIn low (getD (predicatesOf (now (p .entry))) i allFalse))) (getD (countsFrom (now (counts .entry))) i noCounts)))
         (min (length (predicatesOf (now (p .entry)))) (length (countsFrom (now (counts .entry)))))) ⌝ }
 {

@@ -1,14 +1,27 @@
--- `State::is_legal` meets its contract: it is that of its parts. Assumes nothing.
+-- `State::is_legal` meets its contract: some predicate has a stray bit exactly if their union has one, and then the counts decide. Assumes nothing.
 use borrow.Author.Needs.{needs}
-use mathlib.Core.Path.{refl, ap, _∙_}
-use mathlib.Core.List.{[], _∷_}
-use Rattle.registers.specs.Legal.{legal}
-use Rattle.registers.proofs.PartLaws.{parts-are}
+use Rattle.registers.proofs.Legality.{not-allowed}
+use Rattle.registers.proofs.PartLaws.{by-strays, by-numbers}
 use Rattle.registers.proofs.State.is_legal.Statement.{statement}
 use Rattle.registers.proofs.State.is_legal.Tie as tie
 
-settings-requires : tie.Need-settings-requires
-settings-requires c κs = search needs
+settings-allowed-requires : tie.Need-settings-allowed-requires
+settings-allowed-requires c κs = search needs
+
+returns : tie.Need-returns
+returns c = search (not-allowed, needs) depth 9
+
+predicate-length-requires : tie.Need-predicate-length-requires
+predicate-length-requires c κs = search needs
+
+union-requires : tie.Need-union-requires
+union-requires c κs = search needs
+
+is-within-requires : tie.Need-is-within-requires
+is-within-requires c κs = search needs
+
+returns-2 : tie.Need-returns-2
+returns-2 c = search (by-strays, needs) depth 9
 
 words-of-requires : tie.Need-words-of-requires
 words-of-requires c κs = search needs
@@ -16,31 +29,31 @@ words-of-requires c κs = search needs
 numbers-of-requires : tie.Need-numbers-of-requires
 numbers-of-requires c κs = search needs
 
-slice-aggregate-is-legal : tie.Need-slice-aggregate-is-legal
-slice-aggregate-is-legal c = search needs
+slice-aggregate-counts-agree : tie.Need-slice-aggregate-counts-agree
+slice-aggregate-counts-agree c = search needs
 
-slice-aggregate-is-legal-2 : tie.Need-slice-aggregate-is-legal-2
-slice-aggregate-is-legal-2 c = search needs
+slice-aggregate-counts-agree-2 : tie.Need-slice-aggregate-counts-agree-2
+slice-aggregate-counts-agree-2 c = search needs
 
-is-legal-requires : tie.Need-is-legal-requires
-is-legal-requires c κs = search needs
+counts-agree-requires : tie.Need-counts-agree-requires
+counts-agree-requires c κs = search needs
 
-returns : tie.Need-returns
-returns c =
-    let n = c .before .before .before in
-    let w = n .before .before in
-    let s = w .before .before .before .args .self in
-    c .is-legal .ensures (s .flags .n ∷ s .flags .z ∷ s .flags .c ∷ s .flags .v ∷ []) (s .x)
-    ∙ ap legal (parts-are s _ _ _ _ (w .before .before .settings .ensures) refl (w .words-of .ensures) (n .numbers-of .ensures))
+returns-3 : tie.Need-returns-3
+returns-3 c = search (by-numbers, needs) depth 9
 
 pub is-legal-spec : {M : Type 1} → statement M
 is-legal-spec =
     tie.close
     (tie.spec
-    settings-requires
+    settings-allowed-requires
+    returns
+    predicate-length-requires
+    union-requires
+    is-within-requires
+    returns-2
     words-of-requires
     numbers-of-requires
-    slice-aggregate-is-legal
-    slice-aggregate-is-legal-2
-    is-legal-requires
-    returns)
+    slice-aggregate-counts-agree
+    slice-aggregate-counts-agree-2
+    counts-agree-requires
+    returns-3)

@@ -1,19 +1,31 @@
 -- `State::with_p` meets its contract: FFR has no counts, and past it nothing is written. Assumes nothing.
 use borrow.Author.Needs.{needs}
-use mathlib.Core.Path.{_≡_, ap}
+use mathlib.Core.List.{List}
+use mathlib.Core.Logic.{⊎-elim}
+use mathlib.Core.Path.{_≡_, sym, ap, _∙_}
+use Prim.Native.Nat.{ℕ}
 use native.Mathlib.Omega.{arith}
 use lib.ListN.{length, set}
+use lib.Seq.{set-out}
+use Rattle.predicates.specs.declared.Predicate.{Predicate}
 use Rattle.tally.specs.declared.Counts.{Counts}
+use Rattle.tally.specs.Counts.{countsOf}
+use Rattle.registers.specs.declared.State.{State}
 use Rattle.registers.specs.State.{assembled, withP}
-use Rattle.registers.proofs.Registers.{withP-ffr, withP-out, length-mapped}
+use Rattle.registers.proofs.Registers.{withP-ffr, length-mapped}
 use Rattle.registers.proofs.State.with_p.Statement.{statement}
 use Rattle.registers.proofs.State.with_p.Tie as tie
 
-returns : tie.Need-returns
-returns c =
-    let l : length (c .before .args .t1 .counts) ≡ 16 = search (needs, length-mapped) in
-    let m : length (c .before .args .t1 .p) ≡ 17 = search (needs, length-mapped) in
-    withP-out _ _ _ (omega arith) (omega arith)
+-- the predicate is written, and nothing else yet
+joined : (c : tie.Joined1) → let a = c .before .args in let s = a .t1 in c .if1 .self ≡ assembled (s .vl) (s .level) (s .access) (s .flags) (s .x) (set (s .p) (a .r) (a .q)) (s .counts)
+joined c =
+    let s = c .before .args .t1 in
+    let m : length (s .p) ≡ 17 = search (needs, length-mapped) in
+    ⊎-elim (λ w. w .1) (λ w. w .1 ∙ ap (λ (p : List Predicate). assembled (s .vl) (s .level) (s .access) (s .flags) (s .x) p (s .counts)) (sym (set-out (s .p) _ _ (omega (arith, w .0 .left))))) (c .if1 .came)
+
+-- a state with these counts beside a register
+abbrev beside : State → ℕ → Counts → State
+beside s r k = assembled (s .vl) (s .level) (s .access) (s .flags) (s .x) (s .p) (set (s .counts) r k)
 
 mul-q : tie.Need-mul-q
 mul-q c = search needs
@@ -30,25 +42,15 @@ mul-t12 c = search needs
 element-set-from-self : tie.Need-element-set-from-self
 element-set-from-self c = search needs
 
-returns-2 : tie.Need-returns-2
+returns : tie.Need-returns
 unfolding withP
-returns-2 c =
+returns c =
     let a = c .before .before .before .args in
-    let s = a .t1 in
-    ap (λ (k : Counts). assembled (s .vl) (s .level) (s .access) (s .flags) (s .x) (set (s .p) (a .r) (a .q)) (set (s .counts) (a .r) k)) (c .of .ensures)
+    let t = c .before .before .if1 .self in
+    ap (beside t (a .r)) (c .of .ensures) ∙ ap (λ (s : State). beside s (a .r) (countsOf (s .vl) (a .q))) (joined (c .before .before))
 
-returns-3 : tie.Need-returns-3
-returns-3 c = let l : length (c .before .before .args .t1 .counts) ≡ 16 = search (needs, length-mapped) in withP-ffr _ _ _ (omega arith)
+returns-2 : tie.Need-returns-2
+returns-2 c = let l : length (c .before .before .args .t1 .counts) ≡ 16 = search (needs, length-mapped) in joined (c .before) ∙ withP-ffr _ _ _ (omega arith)
 
 pub with-p-spec : {M : Type 1} → statement M
-with-p-spec =
-    tie.close
-    (tie.spec
-    returns
-    mul-q
-    element-set-from-q
-    of-requires
-    mul-t12
-    element-set-from-self
-    returns-2
-    returns-3)
+with-p-spec = tie.close (tie.spec mul-q element-set-from-q of-requires mul-t12 element-set-from-self returns returns-2)
