@@ -11,11 +11,11 @@ use Rattle.bits.specs.Search.{count, some, afterLast, scan}
 use Rattle.predicates.specs.PredTest.{atLowest, atHighest, predTest, nzcv, flagsOf}
 use Rattle.predicates.specs.Predicate.{bitAt, pack, active, spread, elements, predicateLength, hasBitFrom, monotonic, allFalse}
 use Rattle.tally.specs.declared.Counts.{Counts}
-use Rattle.tally.specs.Counts.{countsOf, sameCounts}
+use Rattle.tally.specs.Counts.{trueElements, countsOf, sameCounts}
 use Rattle.registers.specs.declared.State.{State}
 use Rattle.registers.specs.Legal.{isLength, hasStrayBit, hasWrongCount, illegal}
 use Rattle.replies.specs.Reply.{numberOf}
-use Rattle.registers.specs.State.{allCounts, made, readX, readP, readCounts, withX, withP, withFlags}
+use Rattle.registers.specs.State.{allCounts, made, counted, readX, readP, readCounts, withX, withP, withFlags}
 use Rattle.scalars.specs.declared.Condition.the-variants.{Less, LessEqual, GreaterEqual, Greater}
 use Rattle.words.specs.declared.Decoded.{Decoded}
 use Rattle.words.specs.declared.Decoded.the-variants.{Ours, Refused}
@@ -28,14 +28,16 @@ use Rattle.instructions.proofs.Readings.{expandedTo14}
 use Rattle.instructions.specs.Counts.{incDecOf, saturatingOf}
 use Rattle.instructions.specs.Ffr.{setffrOf, underMask, rdffrsPgOf}
 use Rattle.instructions.specs.Instructions.{computeOf}
+use Rattle.instructions.specs.Operands.{registersOf}
 use Rattle.instructions.specs.Searches.{pnextOf, ptestOf}
 use Rattle.instructions.specs.Whiles.{allHeld, whileElement, whileOneOf, whilePairOf}
 use Rattle.scalars.specs.Saturate.{clamp, saturating}
 use Rattle.scalars.specs.While.{operandAt, comparison}
 use Rattle.machine.specs.declared.Stepped.{Stepped}
-use Rattle.machine.specs.Execute.{apply, executeOf}
+use Rattle.machine.specs.Execute.{valuesOf, apply, executeOf}
 use Rattle.machine.specs.Step.{afterWord, stepOf}
 use Rattle.machine.proofs.Counters.{counter-reads-alike}
+use Rattle.machine.proofs.Counts.{step-counted, inc-dec-counts}
 
 -- VL 128, level 3, access on; X1 and X2, P0 and P1 as given, all else zero
 start : ℕ → ℕ → ℕ → ℕ → State
@@ -156,3 +158,12 @@ seventh-reads-alike : (b : ℕ) → expandedTo14 128 (readP (executeOf (start 0 
     ≡ expanded 128 (readP (executeOf (start 0 2 0 0) (While LessEqual false (Counter false 0) Sz.S 1 2)) 8) b
 unfolding start some bitAt testBit number pack predicateLength hasBitFrom isLength hasStrayBit allCounts countsOf sameCounts hasWrongCount illegal active elements count
 seventh-reads-alike = counter-reads-alike (start 0 2 0 0) (record { xs = refl; ps = refl; cs = refl }) LessEqual false false Sz.S 1 2 0 (omega arith) refl
+
+-- what `step-counted` and `inc-dec-counts` ask of a state is met
+stays-counted : counted (stepOf (start 0 2 0x00F1 0x0111) (wordOf (Pfalse 0)) .state) ≡ stepOf (start 0 2 0x00F1 0x0111) (wordOf (Pfalse 0)) .state
+unfolding start some bitAt testBit number pack predicateLength hasBitFrom isLength hasStrayBit allCounts countsOf sameCounts hasWrongCount illegal active elements count
+stays-counted = step-counted (start 0 2 0x00F1 0x0111) (wordOf (Pfalse 0)) refl (record { xs = refl; ps = refl; cs = refl })
+
+adds-elements : computeOf (IncDec false Sz.S 1 1) (valuesOf (start 0 2 0x00F1 0x0111) (registersOf (IncDec false Sz.S 1 1))) 128 ≡ incDecOf false 0 (trueElements 128 Sz.S (readP (start 0 2 0x00F1 0x0111) 1))
+unfolding start some bitAt testBit number pack predicateLength hasBitFrom isLength hasStrayBit allCounts countsOf sameCounts hasWrongCount illegal active elements count
+adds-elements = inc-dec-counts (start 0 2 0x00F1 0x0111) (record { xs = refl; ps = refl; cs = refl }) refl false Sz.S 1 1 (omega arith)

@@ -86,8 +86,8 @@ pub fn put_p(p: &mut [[u64; 4]], counts: &mut [[u16; 4]], vl: u64, r: u64, q: Pr
     let i = r as usize;
     if i < counts.len() {
         let c = Counts::of(q, vl);
-        let numbers = [c.b, c.h, c.s, c.d];
-        counts[i] = numbers;
+        let written = [c.b, c.h, c.s, c.d];
+        counts[i] = written;
     }
 }
 

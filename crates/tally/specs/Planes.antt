@@ -1,4 +1,4 @@
--- Bytes of words, and sums of them.
+-- Bytes of words, and sums of them, as the code adds them up; a reader of the promises needs Counts alone.
 use Prim.Native.Nat.{ℕ, zero, suc, _+_, _*_, _/_, _%_, _^_}
 use mathlib.Core.Bool.{Bool}
 use lib.ListN.{getD}

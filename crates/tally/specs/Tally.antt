@@ -1,4 +1,4 @@
--- The numbers of true elements at the four sizes, in one number: sixteen bits for each size, B lowest.
+-- The numbers of true elements at the four sizes, in one number: sixteen bits for each size, B lowest. It is what the code goes by; a reader of the promises needs Counts alone.
 use Prim.Native.Nat.{ℕ, _+_, _*_, _/_, _%_, _^_}
 use mathlib.Core.Bool.{Bool}
 use lib.ListN.{getD}

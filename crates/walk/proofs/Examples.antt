@@ -16,7 +16,7 @@ use Rattle.replies.specs.declared.Reply.the-variants.{Done, ListTooShort}
 use Rattle.registers.specs.declared.State.{State}
 use Rattle.registers.specs.Legal.{isLength, hasStrayBit, hasWrongCount, illegal}
 use Rattle.tally.specs.Counts.{countsOf, sameCounts}
-use Rattle.registers.specs.State.{allCounts, made, readX, withX, withP, withFlags}
+use Rattle.registers.specs.State.{allCounts, made, counted, readX, withX, withP, withFlags}
 use Rattle.registers.proofs.Registers.{all-length}
 use Rattle.machine.specs.Execute.{apply, executeOf}
 use Rattle.instructions.specs.Counts.{incDecOf}
@@ -26,8 +26,9 @@ use Rattle.instructions.specs.Whiles.{allHeld, whileElement, whileOneOf}
 use Rattle.scalars.specs.While.{operandAt, comparison}
 use Rattle.walk.specs.Demand.{needed}
 use Rattle.walk.specs.Plain.{Walk, run}
-use Rattle.walk.specs.Walk.{plainWalk, positionAt, badRegisters, refusalOf, wholeOf}
+use Rattle.walk.specs.Walk.{plainWalk, positionAt, badRegisters, refusalOf, walkOf, wholeOf}
 use Rattle.walk.proofs.Accepted.{Typed}
+use Rattle.walk.proofs.Kept.{walk-counted}
 use Rattle.walk.proofs.Lengths.{Wrote, two-lengths}
 
 -- level 1, access on, X1 and X2 as given, all else zero
@@ -84,3 +85,8 @@ pub walked-whole : plainWalk Sz.D 1 2 0 1 11 (start 128 5 8) (0 ∷ 0 ∷ 0 ∷ 
 unfolding run positionAt executeOf computeOf whileOneOf pnextOf incDecOf apply withX withP allCounts countsOf withFlags flagsOf nzcv predTest atLowest atHighest
     whileElement allHeld comparison operandAt elements predicateLength spread elementBit pack number active bitAt testBit count some afterLast scan
 walked-whole = refl
+
+-- what `walk-counted` asks is met: spent after five instructions, the counts are those of the registers
+stays-counted : (l : List ℕ) → counted (walkOf 0 1 2 0 1 5 (start 128 5 42) l .state) ≡ walkOf 0 1 2 0 1 5 (start 128 5 42) l .state
+unfolding flagsOf illegal isLength hasStrayBit hasWrongCount sameCounts allCounts countsOf count active elements some hasBitFrom predicateLength bitAt pack number testBit
+stays-counted l = walk-counted 0 1 2 0 1 5 (start 128 5 42) l refl (record { xs = refl; ps = refl; cs = refl })

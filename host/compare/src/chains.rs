@@ -49,27 +49,6 @@ impl Case {
     }
 }
 
-/// A word that writes, and for each register that it writes and each size one that goes by the count.
-fn link(random: &mut Random, writer: u8) -> Vec<u32> {
-    let row = instructions::row(random, usize::from(writer));
-    let mut words = vec![encode(&row).expect("its fields are in range")];
-    for pm in instructions::written(&row) {
-        words.extend([0, 1, 2, 3].map(|size| by_count(random, size, pm)));
-    }
-    words
-}
-
-/// INCP, DECP or a saturating form.
-fn by_count(random: &mut Random, size: u8, pm: u8) -> u32 {
-    let [d, u, sf] = [(); 3].map(|()| random.below(2) as u8);
-    let rdn = random.below(32) as u8;
-    let row = match random.one_in(2) {
-        true => [INC_DEC, size, d, pm, rdn, 0, 0, 0, 0],
-        false => [SATURATING, size, d, u, sf, pm, rdn, 0, 0],
-    };
-    encode(&row).expect("its fields are in range")
-}
-
 /// Chains of words, stepped by either way and run.
 pub struct Chains;
 
@@ -114,10 +93,10 @@ impl Kind for Chains {
         let random = &mut Random::new(seed, KIND, number);
         let Case { writer, vl, start } = Case::new(number);
         let mut state = ready(random, vl);
-        let mut words = link(random, writer);
+        let mut words = instructions::link(random, writer);
         for _ in 1..LINKS {
             let other = random.pick(&WRITERS);
-            words.extend(link(random, other));
+            words.extend(instructions::link(random, other));
         }
         for &word in words.iter().rev() {
             instructions::tie(random, &mut state, word);

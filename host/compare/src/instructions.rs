@@ -155,6 +155,27 @@ pub fn written(row: &Row) -> Vec<u8> {
     }
 }
 
+/// A word that writes, and for each register that it writes and each size one that goes by the count.
+pub fn link(random: &mut Random, writer: u8) -> Vec<u32> {
+    let row = row(random, usize::from(writer));
+    let mut words = vec![encode(&row).expect("its fields are in range")];
+    for pm in written(&row) {
+        words.extend([0, 1, 2, 3].map(|size| by_count(random, size, pm)));
+    }
+    words
+}
+
+/// INCP, DECP or a saturating form.
+pub fn by_count(random: &mut Random, size: u8, pm: u8) -> u32 {
+    let [d, u, sf] = [(); 3].map(|()| random.below(2) as u8);
+    let rdn = random.below(32) as u8;
+    let row = match random.one_in(2) {
+        true => [INC_DEC, size, d, pm, rdn, 0, 0, 0, 0],
+        false => [SATURATING, size, d, u, sf, pm, rdn, 0, 0],
+    };
+    encode(&row).expect("its fields are in range")
+}
+
 /// A word of any form.
 pub fn accepted(random: &mut Random) -> u32 {
     let form = random.index(FORMS.len());

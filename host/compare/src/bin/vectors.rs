@@ -21,12 +21,13 @@ const RUN: u8 = 1;
 const IMAGE: u8 = 2;
 const WALK: u8 = 3;
 
-/// Searches are runs too, drawn apart from the others, and so are runs that come to a word that is none of ours, and those of
-/// FFR's words.
+/// Searches are runs too, drawn apart from the others, and so are runs that come to a word that is none of ours, those of
+/// FFR's words, and those that go by the counts of what was written.
 const SEARCH: u64 = 4;
 const SIZES: [u8; 4] = [0, 1, 2, 3];
 const REFUSED: u64 = 5;
 const FFR: u64 = 6;
+const COUNTS: u64 = 7;
 
 /// Counts of FFR's section, with as many times its bytes.
 const FFRS: [u32; 4] = [0, 2, 3, 4];
@@ -83,6 +84,9 @@ fn main() {
         ffr_words(&mut file, random, vl);
         PLACES.iter().for_each(|&place| write_of_no_run(&mut file, random, vl, place));
     }
+    for (number, vl) in states::LENGTHS.into_iter().enumerate() {
+        counts(&mut file, &mut Random::new(seed, COUNTS, number as u64), vl);
+    }
     file.say_and_check();
     std::io::stdout().write_all(&file.bytes).expect("standard output takes the file");
 }
@@ -124,6 +128,9 @@ fn expected() -> Vec<String> {
     for form in instructions::FORMS {
         list.extend(states::LENGTHS.map(|vl| executed(form, vl)));
     }
+    for form in instructions::WRITERS {
+        list.extend(states::LENGTHS.map(|vl| counted_after(form, vl)));
+    }
     list.extend([0, 1, 2, 3].map(|level| format!("runs at level {level}")));
     list.extend([0, 1, 2, 3, 13, 14].map(stopped_by));
     list.extend(states::LENGTHS.map(|vl| no_run(vl, 14)));
@@ -147,6 +154,11 @@ fn expected() -> Vec<String> {
 
 fn executed(form: &str, vl: u64) -> String {
     format!("executed {form} at {vl}")
+}
+
+/// All counts of what a form has written, gone by.
+fn counted_after(form: u8, vl: u64) -> String {
+    format!("counts gone by after {} at {vl}", instructions::FORMS[usize::from(form)])
 }
 
 /// A CNTP that would answer otherwise if counts ended at bit 14.
@@ -356,6 +368,25 @@ fn ffr_words(file: &mut File, random: &mut Random, vl: u64) {
         short_word(RDFFR_PG, &[mask, d]),
         short_word(RDFFR_PG, &[mask, mask]),
     ];
+    store_run(file, state, &words);
+}
+
+/// Each form that writes predicates, and after it INCP or its kin by each count of what it wrote. The first goes by counts that
+/// the reader of the run's image works out.
+fn counts(file: &mut File, random: &mut Random, vl: u64) {
+    let mut state = states::legal(random, vl);
+    (state.level, state.access) = (3, true);
+    let first = random.below(16) as u8;
+    let mut words: Vec<u32> = SIZES.map(|size| instructions::by_count(random, size, first)).into();
+    for form in instructions::WRITERS {
+        words.extend(instructions::link(random, form));
+        file.see(counted_after(form, vl));
+    }
+    for &word in words.iter().rev() {
+        instructions::tie(random, &mut state, word);
+    }
+    let done = model::run(&state, &words).done;
+    assert_eq!(done, words.len(), "none is refused");
     store_run(file, state, &words);
 }
 

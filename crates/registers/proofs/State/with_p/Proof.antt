@@ -27,6 +27,13 @@ joined c =
 abbrev beside : State → ℕ → Counts → State
 beside s r k = assembled (s .vl) (s .level) (s .access) (s .flags) (s .x) (s .p) (set (s .counts) r k)
 
+returns : tie.Need-returns
+unfolding withP
+returns c =
+    let a = c .before .before .before .args in
+    let t = c .before .before .if1 .self in
+    ap (beside t (a .r)) (c .of .ensures) ∙ ap (λ (s : State). beside s (a .r) (countsOf (s .vl) (a .q))) (joined (c .before .before))
+
 mul-q : tie.Need-mul-q
 mul-q c = search needs
 
@@ -41,13 +48,6 @@ mul-t12 c = search needs
 
 element-set-from-self : tie.Need-element-set-from-self
 element-set-from-self c = search needs
-
-returns : tie.Need-returns
-unfolding withP
-returns c =
-    let a = c .before .before .before .args in
-    let t = c .before .before .if1 .self in
-    ap (beside t (a .r)) (c .of .ensures) ∙ ap (λ (s : State). beside s (a .r) (countsOf (s .vl) (a .q))) (joined (c .before .before))
 
 returns-2 : tie.Need-returns-2
 returns-2 c = let l : length (c .before .before .args .t1 .counts) ≡ 16 = search (needs, length-mapped) in joined (c .before) ∙ withP-ffr _ _ _ (omega arith)

@@ -10,11 +10,11 @@ put-words-requires c κs = search needs
 of-requires : tie.Need-of-requires
 of-requires c κs = search needs
 
-mul-numbers : tie.Need-mul-numbers
-mul-numbers c = search needs
+mul-written : tie.Need-mul-written
+mul-written c = search needs
 
-slice-set-from-numbers : tie.Need-slice-set-from-numbers
-slice-set-from-numbers c = search needs
+slice-set-from-written : tie.Need-slice-set-from-written
+slice-set-from-written c = search needs
 
 same-length : tie.Need-same-length
 same-length c = search needs
@@ -37,8 +37,8 @@ put-p-spec =
     (tie.spec
     put-words-requires
     of-requires
-    mul-numbers
-    slice-set-from-numbers
+    mul-written
+    slice-set-from-written
     same-length
     same-length-2
     returns
