@@ -39,7 +39,8 @@ enum plokamyr_reply {
     PLOKAMYR_LIST_TOO_SHORT = 11,     /* fewer places than positions to visit */
     PLOKAMYR_BUDGET_SPENT = 12,       /* the walk has not ended */
     PLOKAMYR_UNSUPPORTED_FORM = 13,   /* bits 31:24 of the word are 00100101, but its form is none of ours; also for SEL with S = 1 */
-    PLOKAMYR_NOT_MONOTONIC = 14       /* WRFFR's Pn is not a run of ones from bit 0 */
+    PLOKAMYR_NOT_MONOTONIC = 14,      /* WRFFR's Pn is not a run of ones from bit 0 */
+    PLOKAMYR_NOT_OWNED = 15           /* a kernel's word or walk names a register of the other kernel, or touches FFR */
 };
 
 /* A predicate: bit b is bit b % 64 of words[b / 64]. */
@@ -134,6 +135,39 @@ struct plokamyr_walked {
 struct plokamyr_walked plokamyr_walk(struct plokamyr_state state, uint32_t size, uint32_t n, uint32_t m, uint32_t d, uint32_t k,
                                      uint64_t *list, size_t places, uint64_t budget);
 
+/* ---- two kernels on one register file ---- */
+
+/* The first kernel owns X0 to X15 and P0 to P7, the second X16 to X30 and P8 to P15. Register 31 is open to both, FFR to neither. Vector length,
+ * level and access are shared; each kernel has its own flags. A shared state is not put in an image. */
+struct plokamyr_shared {
+    struct plokamyr_state state;  /* its flags are those of the first kernel */
+    struct plokamyr_flags second; /* the flags of the second kernel */
+};
+
+/* shared is what the word left; for a refusal the given one. */
+struct plokamyr_shared_stepped {
+    enum plokamyr_reply reply;
+    struct plokamyr_shared shared;
+};
+
+/* Executes one instruction word of a kernel, the second if second is true, else the first: what plokamyr_step does on the state with that kernel's
+ * flags. Those of the other stay. A word names the registers that it reads, as source or mask, and those that it writes; both of a pair.
+ * Refusals, the first that applies: 4, 1 or 13, 2, 3, 15. There is no 14, since WRFFR touches FFR. */
+struct plokamyr_shared_stepped plokamyr_shared_step(struct plokamyr_shared shared, bool second, uint32_t word);
+
+/* As plokamyr_walked. For a refusal other than 12: 0, 0 and the given shared state. */
+struct plokamyr_shared_walked {
+    enum plokamyr_reply reply;
+    uint64_t count;
+    size_t visited;
+    struct plokamyr_shared shared;
+};
+
+/* The walk of a kernel: what plokamyr_walk does on the state with that kernel's flags. It names Xn, Xm, Pd and Pk; the limit m may be 31.
+ * Refusals, the first that applies: 4, 10, 2 (level 0), 3, 15, 11, 12. */
+struct plokamyr_shared_walked plokamyr_shared_walk(struct plokamyr_shared shared, bool second, uint32_t size, uint32_t n, uint32_t m, uint32_t d,
+                                                   uint32_t k, uint64_t *list, size_t places, uint64_t budget);
+
 /* ---- images ---- */
 
 /* The most words that an image has, its most bytes, and room for the text of any image. */
@@ -208,12 +242,14 @@ enum plokamyr_reply plokamyr_encode(const uint8_t row[PLOKAMYR_ROW], uint32_t *w
 /* The library is compiled for these sizes, for an FFR that is the seventeenth predicate, and for counts right after it. */
 #if defined(__cplusplus)
 static_assert(sizeof(enum plokamyr_reply) == 4 && sizeof(struct plokamyr_state) == 936, "not the library's layout");
+static_assert(sizeof(struct plokamyr_shared) == 944, "not the library's layout");
 static_assert(offsetof(struct plokamyr_state, ffr) == offsetof(struct plokamyr_state, p) + 16 * sizeof(struct plokamyr_predicate),
               "ffr does not lie right after p");
 static_assert(offsetof(struct plokamyr_state, counts) == offsetof(struct plokamyr_state, ffr) + sizeof(struct plokamyr_predicate),
               "counts do not lie right after ffr");
 #elif defined(__STDC_VERSION__) && __STDC_VERSION__ >= 201112L
 _Static_assert(sizeof(enum plokamyr_reply) == 4 && sizeof(struct plokamyr_state) == 936, "not the library's layout");
+_Static_assert(sizeof(struct plokamyr_shared) == 944, "not the library's layout");
 _Static_assert(offsetof(struct plokamyr_state, ffr) == offsetof(struct plokamyr_state, p) + 16 * sizeof(struct plokamyr_predicate),
                "ffr does not lie right after p");
 _Static_assert(offsetof(struct plokamyr_state, counts) == offsetof(struct plokamyr_state, ffr) + sizeof(struct plokamyr_predicate),

@@ -86,13 +86,37 @@ static inline struct plokamyr_state sample(uint64_t vl) {
     return recounted(state);
 }
 
+/* The same for two kernels; the second has other flags than the first. */
+static inline struct plokamyr_shared shared_sample(uint64_t vl) {
+    struct plokamyr_shared shared;
+    memset(&shared, 0xA5, sizeof shared);
+    shared.state = sample(vl);
+    shared.second = (struct plokamyr_flags){.n = false, .z = true, .c = false, .v = false};
+    return shared;
+}
+
+static inline bool same_flags(struct plokamyr_flags a, struct plokamyr_flags b) {
+    return a.n == b.n && a.z == b.z && a.c == b.c && a.v == b.v;
+}
+
 /* Field by field, since what lies between them is nobody's. */
 static inline bool same_state(const struct plokamyr_state *a, const struct plokamyr_state *b) {
     bool settings = a->vl == b->vl && a->level == b->level && a->access == b->access;
-    bool flags = a->flags.n == b->flags.n && a->flags.z == b->flags.z && a->flags.c == b->flags.c && a->flags.v == b->flags.v;
     bool registers = memcmp(a->x, b->x, sizeof a->x) == 0 && memcmp(a->p, b->p, sizeof a->p) == 0;
     bool counts = memcmp(a->counts, b->counts, sizeof a->counts) == 0;
-    return settings && flags && registers && counts && memcmp(&a->ffr, &b->ffr, sizeof a->ffr) == 0;
+    return settings && same_flags(a->flags, b->flags) && registers && counts && memcmp(&a->ffr, &b->ffr, sizeof a->ffr) == 0;
+}
+
+static inline bool same_shared(const struct plokamyr_shared *a, const struct plokamyr_shared *b) {
+    return same_state(&a->state, &b->state) && same_flags(a->second, b->second);
+}
+
+/* Puts the flags of a kernel where an ordinary step or walk has them, or puts them back. */
+static inline void exchange_flags(struct plokamyr_shared *shared, bool second) {
+    if (!second) return;
+    struct plokamyr_flags flags = shared->state.flags;
+    shared->state.flags = shared->second;
+    shared->second = flags;
 }
 
 /* A variable, declared as `value`, with guards on both sides. */

@@ -9,11 +9,14 @@ static void sizes(void) {
     CHECK(sizeof(struct plokamyr_state) == 936);
     CHECK(sizeof(struct plokamyr_ran) == 16);
     CHECK(sizeof(struct plokamyr_walked) == 960);
+    CHECK(sizeof(struct plokamyr_shared) == 944);
+    CHECK(sizeof(struct plokamyr_shared_stepped) == 952);
+    CHECK(sizeof(struct plokamyr_shared_walked) == 968);
     CHECK(sizeof(struct plokamyr_reading) == 952);
     CHECK(sizeof(struct plokamyr_written) == 16);
 }
 
-static void offsets(void) {
+static void state_offsets(void) {
     CHECK(offsetof(struct plokamyr_predicate, words) == 0);
     CHECK(offsetof(struct plokamyr_flags, n) == 0);
     CHECK(offsetof(struct plokamyr_flags, z) == 1);
@@ -31,6 +34,11 @@ static void offsets(void) {
     CHECK(offsetof(struct plokamyr_state, p) == 264);
     CHECK(offsetof(struct plokamyr_state, ffr) == 776);
     CHECK(offsetof(struct plokamyr_state, counts) == 808);
+    CHECK(offsetof(struct plokamyr_shared, state) == 0);
+    CHECK(offsetof(struct plokamyr_shared, second) == 936);
+}
+
+static void answer_offsets(void) {
     CHECK(offsetof(struct plokamyr_ran, reply) == 0);
     CHECK(offsetof(struct plokamyr_ran, refused) == 4);
     CHECK(offsetof(struct plokamyr_ran, done) == 8);
@@ -38,6 +46,12 @@ static void offsets(void) {
     CHECK(offsetof(struct plokamyr_walked, count) == 8);
     CHECK(offsetof(struct plokamyr_walked, visited) == 16);
     CHECK(offsetof(struct plokamyr_walked, state) == 24);
+    CHECK(offsetof(struct plokamyr_shared_stepped, reply) == 0);
+    CHECK(offsetof(struct plokamyr_shared_stepped, shared) == 8);
+    CHECK(offsetof(struct plokamyr_shared_walked, reply) == 0);
+    CHECK(offsetof(struct plokamyr_shared_walked, count) == 8);
+    CHECK(offsetof(struct plokamyr_shared_walked, visited) == 16);
+    CHECK(offsetof(struct plokamyr_shared_walked, shared) == 24);
     CHECK(offsetof(struct plokamyr_reading, reply) == 0);
     CHECK(offsetof(struct plokamyr_reading, count) == 8);
     CHECK(offsetof(struct plokamyr_reading, state) == 16);
@@ -89,11 +103,16 @@ static size_t image_of(const struct plokamyr_state *s, const uint32_t *words, si
 
 typedef struct plokamyr_walked *walk_into(struct plokamyr_walked *place, struct plokamyr_state, uint32_t, uint32_t, uint32_t, uint32_t, uint32_t,
                                           uint64_t *, size_t, uint64_t);
+typedef struct plokamyr_shared_stepped *shared_step_into(struct plokamyr_shared_stepped *place, struct plokamyr_shared, bool, uint32_t);
+typedef struct plokamyr_shared_walked *shared_walk_into(struct plokamyr_shared_walked *place, struct plokamyr_shared, bool, uint32_t, uint32_t,
+                                                        uint32_t, uint32_t, uint32_t, uint64_t *, size_t, uint64_t);
 typedef struct plokamyr_reading *read_into(struct plokamyr_reading *place, const uint8_t *, size_t, uint32_t *, size_t);
 typedef struct plokamyr_state *counted_into(struct plokamyr_state *place, struct plokamyr_state);
 
 /* volatile, so that no compiler sees through it */
 static walk_into *volatile walk_in_place = (walk_into *)(void (*)(void))plokamyr_walk;
+static shared_step_into *volatile shared_step_in_place = (shared_step_into *)(void (*)(void))plokamyr_shared_step;
+static shared_walk_into *volatile shared_walk_in_place = (shared_walk_into *)(void (*)(void))plokamyr_shared_walk;
 static read_into *volatile read_in_place = (read_into *)(void (*)(void))plokamyr_read;
 static counted_into *volatile counted_in_place = (counted_into *)(void (*)(void))plokamyr_counted;
 
@@ -159,6 +178,87 @@ static void walked_fields(uint64_t vl) {
     walked.value = plokamyr_walk(s, 3, 20, 30, 9, 14, list.value, 4, 0x100000007);
     check_walked(&walked.value, &after);
     CHECK(list.value[0] == s.x[20] && list.value[1] == s.x[20] + 1);
+    CHECK(is_filled(list.value + 2, 16));
+    CHECK_GUARDS(list);
+}
+
+/* ---- shared states */
+
+static void check_shared_fields(const struct plokamyr_shared *a, const struct plokamyr_shared *b) {
+    check_fields(&a->state, &b->state);
+    CHECK(a->second.n == b->second.n);
+    CHECK(a->second.z == b->second.z);
+    CHECK(a->second.c == b->second.c);
+    CHECK(a->second.v == b->second.v);
+}
+
+static void expect_shared_step(const struct plokamyr_shared *s, bool second, uint32_t word, const struct plokamyr_shared *after) {
+    static GUARDED(struct plokamyr_shared_stepped value) stepped;
+    FILL(stepped);
+    poison_stack();
+    CHECK(shared_step_in_place(&stepped.value, *s, second, word) == &stepped.value);
+    CHECK_GUARDS(stepped);
+    CHECK(stepped.value.reply == PLOKAMYR_DONE);
+    check_shared_fields(&stepped.value.shared, after);
+    stepped.value = plokamyr_shared_step(*s, second, word);
+    CHECK(stepped.value.reply == PLOKAMYR_DONE);
+    check_shared_fields(&stepped.value.shared, after);
+}
+
+/* A step of each kernel that keeps its flags, and one that sets them: of an empty predicate they are 0110. */
+static void shared_stepped_fields(uint64_t vl) {
+    for (int second = 0; second < 2; second++) {
+        uint32_t p = second ? 15 : 7, mask = second ? 8 : 0;
+        struct plokamyr_shared s = shared_sample(vl), after = s;
+        put_p(&after.state, (int)p, (struct plokamyr_predicate){{0}});
+        expect_shared_step(&s, second, 0x2518E400 | p, &after); /* PFALSE */
+        s = after;
+        *(second ? &after.second : &after.state.flags) = (struct plokamyr_flags){.z = true, .c = true};
+        expect_shared_step(&s, second, 0x2550C000 | mask << 10 | p << 5, &after); /* PTEST */
+    }
+}
+
+/* Every value of both kernels' flags: none stands in another's place. */
+static void shared_flags(void) {
+    for (unsigned i = 0; i < 256; i++) {
+        struct plokamyr_shared s = shared_sample(128);
+        s.state.flags = (struct plokamyr_flags){i & 1, i >> 1 & 1, i >> 2 & 1, i >> 3 & 1};
+        s.second = (struct plokamyr_flags){i >> 4 & 1, i >> 5 & 1, i >> 6 & 1, i >> 7 & 1};
+        for (int second = 0; second < 2; second++) {
+            struct plokamyr_shared after = s;
+            put_p(&after.state, second ? 8 : 0, (struct plokamyr_predicate){{0}});
+            expect_shared_step(&s, second, second ? 0x2518E408 : 0x2518E400, &after); /* PFALSE */
+        }
+    }
+}
+
+static void check_shared_walked(const struct plokamyr_shared_walked *walked, const struct plokamyr_shared *after) {
+    CHECK(walked->reply == PLOKAMYR_DONE);
+    CHECK(walked->count == 2 + 3 + 2);
+    CHECK(walked->visited == 2);
+    check_shared_fields(&walked->shared, after);
+}
+
+static void shared_walked_fields(uint64_t vl) {
+    static GUARDED(struct plokamyr_shared_walked value) walked;
+    static GUARDED(uint64_t value[4]) list;
+    struct plokamyr_shared s = shared_sample(vl);
+    s.state.x[20] = 0x1122334455667788;
+    s.state.x[30] = s.state.x[20] + 2;
+    struct plokamyr_shared after = s;
+    after.state.x[20] = s.state.x[30];
+    put_p(&after.state, 9, (struct plokamyr_predicate){{0}});
+    put_p(&after.state, 14, (struct plokamyr_predicate){{0}});
+    after.second = (struct plokamyr_flags){.n = false, .z = true, .c = true, .v = false};
+    FILL(walked);
+    FILL(list);
+    poison_stack();
+    CHECK(shared_walk_in_place(&walked.value, s, true, 3, 20, 30, 9, 14, list.value, 4, 0x100000007) == &walked.value);
+    CHECK_GUARDS(walked);
+    check_shared_walked(&walked.value, &after);
+    walked.value = plokamyr_shared_walk(s, true, 3, 20, 30, 9, 14, list.value, 4, 0x100000007);
+    check_shared_walked(&walked.value, &after);
+    CHECK(list.value[0] == s.state.x[20] && list.value[1] == s.state.x[20] + 1);
     CHECK(is_filled(list.value + 2, 16));
     CHECK_GUARDS(list);
 }
@@ -357,12 +457,16 @@ static void parts_apart(uint64_t vl) {
 
 int main(void) {
     sizes();
-    offsets();
+    state_offsets();
+    answer_offsets();
     images();
     small_fields();
+    shared_flags();
     for (int i = 0; i < 5; i++) {
         counted_fields(lengths[i]);
         walked_fields(lengths[i]);
+        shared_stepped_fields(lengths[i]);
+        shared_walked_fields(lengths[i]);
         stepped_fields(lengths[i]);
         ran_fields(lengths[i]);
         parts_apart(lengths[i]);

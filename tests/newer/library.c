@@ -34,6 +34,15 @@ struct plokamyr_walked plokamyr_walk(struct plokamyr_state state, uint32_t size,
     return (struct plokamyr_walked){numbered(size), budget, places, state};
 }
 
+struct plokamyr_shared_stepped plokamyr_shared_step(struct plokamyr_shared shared, bool second, uint32_t word) {
+    return (struct plokamyr_shared_stepped){numbered(word), shared};
+}
+
+struct plokamyr_shared_walked plokamyr_shared_walk(struct plokamyr_shared shared, bool second, uint32_t size, uint32_t n, uint32_t m, uint32_t d,
+                                                   uint32_t k, uint64_t *list, size_t places, uint64_t budget) {
+    return (struct plokamyr_shared_walked){numbered(size), budget, places, shared};
+}
+
 /* The first four bytes of the image are the reply. */
 struct plokamyr_reading plokamyr_read(const uint8_t *image, size_t length, uint32_t *words, size_t places) {
     uint32_t number;

@@ -1,2 +1,3 @@
 -- Laws of the answers for C.
 pub mod Parts
+pub mod Kernels

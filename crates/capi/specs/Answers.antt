@@ -8,10 +8,14 @@ use Rattle.registers.specs.declared.State.{State}
 use Rattle.registers.specs.Parts.{stateAt}
 use Rattle.machine.specs.Step.{stepOf, runOf}
 use Rattle.walk.specs.declared.Walked as Walk
+use Rattle.shared.specs.declared.Stepped as Shared
+use Rattle.shared.specs.declared.Walked as Shared′
 use Rattle.image.specs.declared.Reading as Image
 use Rattle.image.specs.declared.Written as Image′
 use Rattle.capi.specs.declared.Ran.{Ran}
 use Rattle.capi.specs.declared.Walked.{Walked}
+use Rattle.capi.specs.declared.SharedStepped.{SharedStepped}
+use Rattle.capi.specs.declared.SharedWalked.{SharedWalked}
 use Rattle.capi.specs.declared.Reading.{Reading}
 use Rattle.capi.specs.declared.Written.{Written}
 
@@ -32,6 +36,12 @@ pub record RanParts (answer : Ran) (words : List ℕ) (before after : State) : T
 
 abbrev pub walkedAs : Walk.Walked → Walked
 walkedAs r = record { reply = numberOf (r .reply); count = r .count; visited = r .visited; state = r .state }
+
+abbrev pub sharedSteppedAs : Shared.Stepped → SharedStepped
+sharedSteppedAs r = record { reply = numberOf (r .reply); shared = r .shared }
+
+abbrev pub sharedWalkedAs : Shared′.Walked → SharedWalked
+sharedWalkedAs r = record { reply = numberOf (r .reply); count = r .count; visited = r .visited; shared = r .shared }
 
 abbrev pub readAs : Image.Reading → Reading
 readAs r = record { reply = numberOf (r .reply); count = r .count; state = r .state }

@@ -11,12 +11,15 @@ ghost use Rattle.walk.specs.Demand.{Demand3};
 ghost use Rattle.image.specs.Reading.{readOf, listAfter};
 ghost use Rattle.image.specs.Writing.{writtenOf, bufferAfter};
 ghost use Rattle.transcript.specs.Transcript.{transcriptOf, afterAll, placedAll};
-ghost use Rattle.capi.specs.Answers.{stateIn, SteppedParts, RanParts, walkedAs, readAs, writtenAs};
+ghost use Rattle.shared.specs.Shared as Kernels;
+ghost use Rattle.capi.specs.Answers.{stateIn, SteppedParts, RanParts, walkedAs, sharedSteppedAs, sharedWalkedAs, readAs, writtenAs};
 ghost use Rattle.words.specs.Rows.{decodedReply, decodedRow, encodedReply, encodedWord};
 use registers::COUNTED;
 use registers::PREDICATES;
 use registers::State;
 use registers::parts::Settings;
+use shared::Kernel;
+use shared::Shared;
 use words::Decoded;
 use words::Encoded;
 
@@ -33,6 +36,20 @@ pub struct Walked {
     pub count: u64,
     pub visited: usize,
     pub state: State,
+}
+
+#[repr(C)]
+pub struct SharedStepped {
+    pub reply: u32,
+    pub shared: Shared,
+}
+
+#[repr(C)]
+pub struct SharedWalked {
+    pub reply: u32,
+    pub count: u64,
+    pub visited: usize,
+    pub shared: Shared,
 }
 
 #[repr(C)]
@@ -135,6 +152,49 @@ pub extern "C" fn plokamyr_walk(
         count: walked.count,
         visited: walked.visited,
         state,
+    }
+}
+
+// One instruction word, executed for one of two kernels on a shared state.
+#[no_mangle]
+pub extern "C" fn plokamyr_shared_step(shared: Shared, second: bool, word: u32) -> SharedStepped
+    ensures { λ r. ⌜ r ≡ sharedSteppedAs (Kernels.stepOf (Kernels.kernelOf second) shared word) ⌝ }
+{
+    let stepped = shared.step(Kernel::of(second), word);
+    let reply = stepped.reply;
+    let shared = stepped.shared;
+    SharedStepped {
+        reply: reply.number() as u32,
+        shared,
+    }
+}
+
+// The walk of one of two kernels on a shared state.
+#[no_mangle]
+pub extern "C" fn plokamyr_shared_walk(
+    shared: Shared,
+    second: bool,
+    size: u32,
+    n: u32,
+    m: u32,
+    d: u32,
+    k: u32,
+    list: &mut [u64],
+    budget: u64,
+) -> SharedWalked
+    ensures { λ r. ⌜ r ≡ sharedWalkedAs (Kernels.walkOf (Kernels.kernelOf second) size n m d k budget shared (now (list .entry))) ⌝ }
+    ensures { λ r. ⌜ now (list .exit) ≡ Kernels.listOf (Kernels.kernelOf second) size n m d k budget shared (now (list .entry)) ⌝ }
+    ensures { λ r. ⌜ (Kernels.refusalOf (Kernels.kernelOf second) size n m d k shared (length (now (list .entry))) ≡ Done → Demand3 (sizeOf size) n m d k budget (Kernels.stateFor (Kernels.kernelOf second) shared) (now (list .entry)) (now (list .exit)) (Kernels.walkedBy (Kernels.kernelOf second) (Kernels.walkOf (Kernels.kernelOf second) size n m d k budget shared (now (list .entry))))) ⌝ }
+{
+    let kernel = Kernel::of(second);
+    let walked = shared.walk(kernel, size, n, m, d, k, list, budget);
+    let reply = walked.reply;
+    let shared = walked.shared;
+    SharedWalked {
+        reply: reply.number() as u32,
+        count: walked.count,
+        visited: walked.visited,
+        shared,
     }
 }
 

@@ -22,6 +22,7 @@ numberOf R.ListTooShort = 11
 numberOf R.BudgetSpent = 12
 numberOf R.UnsupportedForm = 13
 numberOf R.NotMonotonic = 14
+numberOf R.NotOwned = 15
 
 -- nothing was refused
 abbrev pub isDone : Reply → Bool

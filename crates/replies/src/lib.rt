@@ -1,4 +1,4 @@
-// The replies: what a request is answered with, and the number of each, 0 to 14. 0 is done; every other refuses the request, and all but 12 then leave
+// The replies: what a request is answered with, and the number of each, 0 to 15. 0 is done; every other refuses the request, and all but 12 then leave
 // the state and lent memory as they were.
 ghost use mathlib.Core.Path.{_≡_};
 ghost use Rattle.replies.specs.Reply.{numberOf, isDone};
@@ -23,6 +23,8 @@ pub enum Reply {
     UnsupportedForm,
     // WRFFR's operand is not a run of ones from bit 0.
     NotMonotonic,
+    // Of two kernels on one register file: the word or walk names a register that is not its own kernel's, or touches FFR.
+    NotOwned,
 }
 
 impl Reply {
@@ -46,6 +48,7 @@ impl Reply {
             Reply::BudgetSpent => 12,
             Reply::UnsupportedForm => 13,
             Reply::NotMonotonic => 14,
+            Reply::NotOwned => 15,
         }
     }
 

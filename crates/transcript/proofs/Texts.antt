@@ -110,6 +110,7 @@ reply-small R.ListTooShort = lit< tt
 reply-small R.BudgetSpent = lit< tt
 reply-small R.UnsupportedForm = lit< tt
 reply-small R.NotMonotonic = lit< tt
+reply-small R.NotOwned = lit< tt
 
 end-most : (n : ℕ) → n ≤ 4096 → length (endLine n) ≤ 9
 unfolding endLine

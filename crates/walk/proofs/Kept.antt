@@ -2,11 +2,10 @@
 use mathlib.Core.Bool.{Bool, true, false}
 use mathlib.Core.List.{List}
 use mathlib.Core.Path.{_≡_, refl, sym, subst}
-use Prim.Native.Nat.{ℕ, zero, suc}
+use Prim.Native.Nat.{ℕ}
 use lib.ListN.{length}
 use borrow.Author.Tests.{eqb-true}
 use Rattle.bits.specs.declared.Size.{Size}
-use Rattle.bits.specs.Choice.{pick}
 use Rattle.registers.specs.declared.State.{State}
 use Rattle.registers.specs.Legal.{legal}
 use Rattle.registers.specs.State.{counted}
@@ -15,54 +14,29 @@ use Rattle.registers.proofs.Registers.{Sized}
 use Rattle.replies.specs.declared.Reply.{Reply}
 use Rattle.replies.specs.Reply.{numberOf, isDone}
 use Rattle.replies.proofs.Replies.{number-done}
-use Rattle.scalars.specs.declared.Condition.the-variants.{Less}
 use Rattle.words.specs.declared.Instruction.{Instruction}
-use Rattle.words.specs.declared.Instruction.the-variants.{While, IncDec, Pnext, Pfalse}
-use Rattle.words.specs.declared.Target.the-variants.{One}
 use Rattle.words.specs.Words.{sizeOf}
 use Rattle.machine.specs.Execute.{executeOf}
 use Rattle.machine.proofs.Frame.{execute-sized}
 use Rattle.machine.proofs.Kept.{execute-legal}
 use Rattle.machine.proofs.Steps.{Kept}
 use Rattle.walk.specs.declared.Walked.{Walked}
-use Rattle.walk.specs.declared.Phase.{Phase}
-use Rattle.walk.specs.declared.Phase.the-variants as P
-use Rattle.walk.specs.Plain.{WalkInstructions, Walk, begin, advanced, execute, turn, run}
+use Rattle.walk.specs.Plain.{begin}
 use Rattle.walk.specs.Walk.{instructionsOf, plainWalk, refusalOf, walkOf}
+use Rattle.walk.proofs.Related.{run-keeps}
 use Rattle.walk.proofs.Answered.{answer-accepted, answer-refused}
 
 module _ (size : Size) (n m d k : ℕ) where
-  abbrev M : WalkInstructions State
-  M = instructionsOf size n m d k
-
-  one : (s : State) (i : Instruction) → Kept s → Kept (executeOf s i)
-  one s i h = record { legal-is = execute-legal s i (h .sized) (h .legal-is); sized = execute-sized s i (h .sized) }
-
-  moved : (z : Bool) (s : State) (w : Walk State) → Kept s → Kept (advanced M z s w .state)
-  moved true s w h = h
-  moved false s w h = h
-
-  executed : (p : Phase) (w : Walk State) → Kept (w .state) → Kept (execute M p w .state)
-  executed P.Pfalse w h = one (w .state) (Pfalse k) h
-  executed P.Whilelo w h = one (w .state) (While Less true (One true d) size n m) h
-  executed P.Pnext w h = moved (M .zeroFlag (M .pnext (w .state))) (M .pnext (w .state)) w (one (w .state) (Pnext size d k) h)
-  executed P.Incp w h = one (w .state) (IncDec false size d n) h
-
-  turned : (w : Walk State) → Kept (w .state) → Kept (turn M w .state)
-  turned w h = go (w .ended)
-    where
-      go : (b : Bool) → Kept (pick b w (execute M (w .next) w) .state)
-      go true = h
-      go false = executed (w .next) w h
+  one : (i : Instruction) (s : State) → Kept s → Kept (executeOf s i)
+  one i s h = record { legal-is = execute-legal s i (h .sized) (h .legal-is); sized = execute-sized s i (h .sized) }
 
   -- at every budget
   pub plain-kept : (b : ℕ) (s : State) (l : List ℕ) → Kept s → Kept (plainWalk size n m d k b s l .state)
-  unfolding run
-  plain-kept zero s l h = h
-  plain-kept (suc b) s l h = turned (run M b (begin s l)) (plain-kept b s l h)
+  plain-kept b s l h =
+      run-keeps (instructionsOf size n m d k) Kept (record { pfalse = one _; whilelo = one _; pnext = one _; incp = one _ }) b (begin s l) h
 
 module _ (size n m d k budget : ℕ) (s : State) (l : List ℕ) (ok : legal s ≡ true) (sized : Sized s) where
-  walk-kept : Kept (walkOf size n m d k budget s l .state)
+  pub walk-kept : Kept (walkOf size n m d k budget s l .state)
   walk-kept = go (isDone reply) refl
     where
       reply : Reply

@@ -9,6 +9,7 @@ pub mod Demands
 pub mod Turns
 pub mod Loop
 pub mod Answered
+pub mod Related
 pub mod Lengths
 pub mod Untouched
 pub mod Examples

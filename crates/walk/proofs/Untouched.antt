@@ -2,12 +2,11 @@
 use mathlib.Core.Bool.{Bool, true, false}
 use mathlib.Core.List.{List}
 use mathlib.Core.Path.{_≡_, refl, ap, _∙_}
-use Prim.Native.Nat.{ℕ, zero, suc, _<_}
+use Prim.Native.Nat.{ℕ, _<_}
 use native.Mathlib.Omega.{arith}
 use lib.ListN.{length}
 use borrow.Author.Tests.{eqb-true}
 use Rattle.bits.specs.declared.Size.{Size}
-use Rattle.bits.specs.Choice.{pick}
 use Rattle.registers.specs.declared.State.{State}
 use Rattle.registers.specs.State.{ffr, registerCount, readP}
 use Rattle.replies.specs.declared.Reply.{Reply}
@@ -20,40 +19,24 @@ use Rattle.words.specs.declared.Target.the-variants.{One}
 use Rattle.words.specs.Words.{sizeOf}
 use Rattle.machine.proofs.Frame.{untouched}
 use Rattle.walk.specs.declared.Walked.{Walked}
-use Rattle.walk.specs.declared.Phase.{Phase}
-use Rattle.walk.specs.declared.Phase.the-variants as P
-use Rattle.walk.specs.Plain.{WalkInstructions, Walk, begin, advanced, execute, turn, run}
+use Rattle.walk.specs.Plain.{begin}
 use Rattle.walk.specs.Walk.{instructionsOf, plainWalk, refusalOf, walkOf}
 use Rattle.walk.proofs.Accepted.{p-below}
+use Rattle.walk.proofs.Related.{Keeps, run-keeps}
 use Rattle.walk.proofs.Answered.{answer-accepted, answer-refused}
 
 module _ (size : Size) (n m d k r : ℕ) (there : r < registerCount) (not-d : r ≡ d → ⊥) (not-k : r ≡ k → ⊥) where
-  abbrev M : WalkInstructions State
-  M = instructionsOf size n m d k
-
-  -- on Z or not, PNEXT's state
-  moved : (z : Bool) (s : State) (w : Walk State) → readP (advanced M z s w .state) r ≡ readP s r
-  moved true s w = refl
-  moved false s w = refl
-
-  executed : (p : Phase) (w : Walk State) → readP (execute M p w .state) r ≡ readP (w .state) r
-  executed P.Pfalse w = untouched (w .state) (Pfalse k) .p r not-k (λ e. omega arith)
-  executed P.Whilelo w = untouched (w .state) (While Less true (One true d) size n m) .p r not-d (λ e. omega arith)
-  executed P.Pnext w = moved (M .zeroFlag (M .pnext (w .state))) (M .pnext (w .state)) w ∙ untouched (w .state) (Pnext size d k) .p r not-k (λ e. omega arith)
-  executed P.Incp w = untouched (w .state) (IncDec false size d n) .p r (λ e. omega arith) (λ e. omega arith)
-
-  turned : (w : Walk State) → readP (turn M w .state) r ≡ readP (w .state) r
-  turned w = go (w .ended)
-    where
-      go : (b : Bool) → readP (pick b w (execute M (w .next) w) .state) r ≡ readP (w .state) r
-      go true = refl
-      go false = executed (w .next) w
-
   -- at every budget
   pub walk-keeps : (b : ℕ) (s : State) (l : List ℕ) → readP (plainWalk size n m d k b s l .state) r ≡ readP s r
-  unfolding run
-  walk-keeps zero s l = refl
-  walk-keeps (suc b) s l = turned (run M b (begin s l)) ∙ walk-keeps b s l
+  walk-keeps b s l = run-keeps (instructionsOf size n m d k) (λ (t : State). readP t r ≡ readP s r) one b (begin s l) refl
+    where
+      one : Keeps (instructionsOf size n m d k) (λ (t : State). readP t r ≡ readP s r)
+      one = record {
+        pfalse = λ t h. untouched t (Pfalse k) .p r not-k (λ e. omega arith) ∙ h;
+        whilelo = λ t h. untouched t (While Less true (One true d) size n m) .p r not-d (λ e. omega arith) ∙ h;
+        pnext = λ t h. untouched t (Pnext size d k) .p r not-k (λ e. omega arith) ∙ h;
+        incp = λ t h. untouched t (IncDec false size d n) .p r (λ e. omega arith) (λ e. omega arith) ∙ h;
+      }
 
 -- refused or not
 pub ffr-kept : (size n m d k budget : ℕ) (s : State) (l : List ℕ) → readP (walkOf size n m d k budget s l .state) ffr ≡ readP s ffr

@@ -58,7 +58,7 @@ fn bad_registers(size: u32, n: u32, m: u32, d: u32, k: u32) -> bool
 }
 
 // The first refusal that applies, or `Done`.
-fn refusal(state: State, size: u32, n: u32, m: u32, d: u32, k: u32, places: usize) -> Reply
+pub fn refusal(state: State, size: u32, n: u32, m: u32, d: u32, k: u32, places: usize) -> Reply
     ensures { λ r. ⌜ r ≡ refusalOf size n m d k state places ⌝ }
 {
     if !state.is_legal() {

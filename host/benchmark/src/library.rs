@@ -3,7 +3,7 @@
 use crate::builds::Build;
 use crate::timing::best;
 use crate::words;
-use plokamyr::{Reply, State};
+use plokamyr::{Flags, Kernel, Reply, Shared, State};
 use std::hint::black_box;
 
 /// A run is short: as many are timed together as have so many words.
@@ -34,6 +34,25 @@ fn each(start: &State, words: &[u32], step: impl Fn(&mut State, u32) -> Reply) -
         }
     });
     assert_eq!(state, after(start, words), "stepped, and run");
+    time
+}
+
+/// The step of a kernel, called for each word, from the start with no flags for the second.
+pub fn shared_step(start: &State, words: &[(Kernel, u32)]) -> f64 {
+    let runs = TIMED / words.len();
+    let start = Shared { state: start.clone(), second: Flags::default() };
+    let mut shared = start.clone();
+    let time = best(5, (runs * words.len()) as u64, || {
+        for _ in 0..runs {
+            shared.clone_from(black_box(&start));
+            for (kernel, word) in words {
+                assert_eq!(black_box(&mut shared).step(*kernel, *word), Reply::Done);
+            }
+        }
+    });
+    let mut expected = after(&start.state, &words.iter().map(|(_, word)| *word).collect::<Vec<_>>());
+    expected.flags = shared.state.flags; // no register goes by them
+    assert_eq!(shared.state, expected, "two kernels, and a run");
     time
 }
 
@@ -94,14 +113,29 @@ pub fn after(start: &State, words: &[u32]) -> State {
 
 /// Walks of as many byte positions as the list has places, one after the other.
 pub fn walk(build: &Build, vl: u64, list: &mut [u64], walks: u64) -> f64 {
-    let positions = list.len() as u64;
     let mut state = State::new(vl, 1);
-    state.x[1] = positions;
+    state.x[1] = list.len() as u64;
+    each_walk(vl, list, walks, |list, budget| (build.walk)(black_box(&state), list, budget))
+}
+
+/// The same walks of the second kernel.
+pub fn shared_walk(vl: u64, list: &mut [u64], walks: u64) -> f64 {
+    let mut shared = Shared::new(vl, 1);
+    shared.state.x[17] = list.len() as u64;
+    each_walk(vl, list, walks, |list, budget| {
+        let walked = black_box(&shared).walk(Kernel::Second, 0, 16, 17, 8, 9, list, budget);
+        (walked.reply == Reply::Done).then_some(walked.count)
+    })
+}
+
+/// A walk fills the list within its budget, and answers how many instructions were executed; none if it did not end.
+fn each_walk(vl: u64, list: &mut [u64], walks: u64, walk: impl Fn(&mut [u64], u64) -> Option<u64>) -> f64 {
+    let positions = list.len() as u64;
     let budget = walk_instructions(vl, positions);
     list.fill(u64::MAX);
     let time = best(3, walks * budget, || {
         for _ in 0..walks {
-            assert_eq!((build.walk)(black_box(&state), list, budget), Some(budget));
+            assert_eq!(walk(list, budget), Some(budget));
         }
     });
     assert!(list.iter().copied().eq(0..positions), "the positions of the walk");

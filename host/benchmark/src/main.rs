@@ -17,6 +17,7 @@ mod words;
 
 use builds::{BUILDS, NOW};
 use library::walk_instructions;
+use plokamyr::Kernel;
 use qemu::Qemu;
 use table::{Table, LENGTHS};
 
@@ -28,14 +29,17 @@ const TITLES: u64 = 4_000;
 const ROUNDS: usize = 8;
 
 /// What is divided by what, under the table of times, where both were timed.
-const RATIOS: [(&str, &str); 12] = [
+const RATIOS: [(&str, &str); 15] = [
     ("step, lent", "step"),
     ("step, second program", "step"),
+    ("step, shared", "step, nine forms"),
     ("run, second program", "run"),
     ("run, nine forms, qemu", "run, nine forms"),
     ("walk, second program", "walk"),
     ("walk, qemu", "walk"),
     ("walk, qemu, no positions", "walk"),
+    ("walk, shared", "walk"),
+    ("walk, titles, shared", "walk, titles"),
     ("search, by elements", "search, by words"),
     ("run, before", "run"),
     ("run, PNEXT, before", "run, PNEXT"),
@@ -48,7 +52,8 @@ step, run: 4,096 words, the seventeen forms in turn, their fields drawn at rando
 RDFFR before it has read, so that none is refused. The library's state after them was compared with the second program's.
 Step, lent: by way of the step by value. Step, refused for its word: that the state is legal is tested, its counts among
 that, and little else is done. Counted: all counts worked out, the state copied in and back. Both in ns for each call, with any
-bits in the predicates. Nine forms: those of levels 1 and 2 without FFR's.
+bits in the predicates. Nine forms: those of levels 1 and 2 without FFR's. Step, nine forms, and step, shared: the same words of
+nine forms, of two kernels in turn, as ordinary steps, and as steps of the kernels, which copy the state in and back.
 Logic: predicate logic alone, all operations, with and without flags.
 FFR: its five forms alone, in turn, from an FFR that is empty.
 Counters: CNTP of counters alone, all sizes and groups, of all marks, half of them inverted.
@@ -56,7 +61,7 @@ search: from byte element 0 of a mask in which only the last is active, in ns fo
 does it. By elements: a scan that tests one after the other.
 run, PNEXT: 15 words of PNEXT through that mask, each from an empty cursor; the state is set and tested for each run.
 walk: 2,000,000 byte positions (the second program: 20,000). Instructions are the walk's own, D + 3R + 2.
-Titles: walks of 20 positions, one after the other.";
+Titles: walks of 20 positions, one after the other. Shared: of the second of two kernels.";
 
 #[cfg(before)]
 const COPIES: &str = "timed as the other is: by a copy, each of whose functions is at a multiple of 64 bytes.";
@@ -69,6 +74,7 @@ INCP alone, so less than the walk does. Both have branches besides, which are no
 struct Bench {
     all: Vec<u32>,
     base: Vec<u32>,
+    of_kernels: Vec<(Kernel, u32)>,
     logic: Vec<u32>,
     counters: Vec<u32>,
     ffr: Vec<u32>,
@@ -83,14 +89,16 @@ fn main() {
     let base = words::base_forms(WORDS);
     let qemu = Qemu::build(&base).map_err(|missing| println!("Without QEMU: {missing}.\n")).ok();
     let all = words::all_forms(WORDS);
+    let of_kernels = words::of_kernels(WORDS);
     let logic = words::logic(WORDS);
     let counters = words::counters(WORDS);
     let ffr = words::ffr(WORDS);
     let list = vec![1; POSITIONS as usize];
-    let mut bench = Bench { all, base, logic, counters, ffr, list, qemu, table: Table::default() };
+    let mut bench = Bench { all, base, of_kernels, logic, counters, ffr, list, qemu, table: Table::default() };
     for _ in 0..ROUNDS {
         for (column, vl) in LENGTHS.into_iter().enumerate() {
             bench.words_round(column, vl);
+            bench.shared_round(column, vl);
             bench.counts_round(column, vl);
             bench.base_words_round(column, vl);
             bench.logic_round(column, vl);
@@ -136,6 +144,15 @@ impl Bench {
             table.take(&build.line("run"), column, library::run(build, &start, all));
         }
         table.take("run, second program", column, second::run(&start, all));
+    }
+
+    /// Times steps of two kernels in turn, and the same words as ordinary steps.
+    fn shared_round(&mut self, column: usize, vl: u64) {
+        let start = words::start(vl);
+        let Bench { table, of_kernels, .. } = self;
+        let words: Vec<u32> = of_kernels.iter().map(|(_, word)| *word).collect();
+        table.take("step, nine forms", column, library::step(&start, &words));
+        table.take("step, shared", column, library::shared_step(&start, of_kernels));
     }
 
     /// Times what the counts cost by themselves.
@@ -198,6 +215,8 @@ impl Bench {
             table.take(&build.line("walk"), column, library::walk(build, vl, list, 1));
             table.take(&build.line("walk, titles"), column, library::walk(build, vl, &mut [0; TITLE], TITLES));
         }
+        table.take("walk, shared", column, library::shared_walk(vl, list, 1));
+        table.take("walk, titles, shared", column, library::shared_walk(vl, &mut [0; TITLE], TITLES));
         table.take("walk, second program", column, second::walk(vl));
         if let Some(qemu) = &self.qemu {
             let count = walk_instructions(vl, POSITIONS) as f64;

@@ -1,28 +1,34 @@
 //! The library's calls, in the second program's types so that answers can be compared as they are.
 //! Rows go past the Rust wrapper too, so that what a refusal leaves in row and word is seen.
 
+use compare::actions::Tour;
 use compare::routes::Route;
-use model::{Flags, Ran, Reading, Row, State, Walked, Written};
+use model::{Flags, Kernel, Ran, Reading, Row, Shared, SharedWalked, State, Walked, Written};
 use plokamyr::{Counts, Predicate, Reply};
 use std::hint::black_box;
 
 const CANARY: u64 = 0xC0DE_CAFE_F00D_D00D;
 
-/// A state with canary places around it.
+/// A state, or a shared one, with canary places around it.
 #[repr(C)]
-struct Guarded {
+struct Guarded<S> {
     before: [u64; 16],
-    state: plokamyr::State,
+    state: S,
     after: [u64; 16],
 }
 
-/// What a call answers that changes the state where it stands, and the state after it.
-fn in_place<T>(state: &State, call: impl FnOnce(&mut plokamyr::State) -> T) -> (T, State) {
-    let mut guarded = Guarded { before: [CANARY; 16], state: to_library(state), after: [CANARY; 16] };
+/// What a call answers that changes what it is given where it stands, and this after it.
+fn guarded<S: Clone, T>(state: S, call: impl FnOnce(&mut S) -> T) -> (T, S) {
+    let mut guarded = Guarded { before: [CANARY; 16], state, after: [CANARY; 16] };
     let answer = call(&mut black_box(&mut guarded).state);
     let guarded = black_box(&guarded);
     assert_eq!((guarded.before, guarded.after), ([CANARY; 16], [CANARY; 16]), "the library wrote past the state");
-    (answer, from_library(&guarded.state))
+    (answer, guarded.state.clone())
+}
+
+fn in_place<T>(state: &State, call: impl FnOnce(&mut plokamyr::State) -> T) -> (T, State) {
+    let (answer, state) = guarded(to_library(state), call);
+    (answer, from_library(&state))
 }
 
 pub fn step(state: &State, word: u32) -> (u8, State) {
@@ -49,6 +55,18 @@ pub fn walk(route: &Route, list: &mut [u64]) -> Walked {
     let walked = plokamyr::walk(&to_library(state), *size, *n, *m, *d, *k, list, *budget);
     let (reply, state) = (number(walked.reply), from_library(&walked.state));
     Walked { reply, count: walked.count, visited: walked.visited, state }
+}
+
+pub fn shared_step(shared: &Shared, kernel: Kernel, word: u32) -> (u8, Shared) {
+    let (reply, shared) = guarded(to_shared(shared), |shared| shared.step(to_kernel(kernel), word));
+    (number(reply), from_shared(&shared))
+}
+
+pub fn shared_walk(shared: &Shared, kernel: Kernel, tour: &Tour, list: &mut [u64]) -> SharedWalked {
+    let Tour { size, n, m, d, k, budget, .. } = *tour;
+    let walked = to_shared(shared).walk(to_kernel(kernel), size, n, m, d, k, list, budget);
+    let (reply, shared) = (number(walked.reply), from_shared(&walked.shared));
+    SharedWalked { reply, count: walked.count, visited: walked.visited, shared }
 }
 
 pub fn read(image: &[u8], words: &mut [u32]) -> Reading {
@@ -87,11 +105,33 @@ fn number(reply: Reply) -> u8 {
     u8::try_from(reply.number()).unwrap_or(u8::MAX)
 }
 
+fn to_kernel(kernel: Kernel) -> plokamyr::Kernel {
+    match kernel {
+        Kernel::First => plokamyr::Kernel::First,
+        Kernel::Second => plokamyr::Kernel::Second,
+    }
+}
+
+fn to_shared(shared: &Shared) -> plokamyr::Shared {
+    plokamyr::Shared { state: to_library(&shared.state), second: to_flags(shared.second) }
+}
+
+fn from_shared(shared: &plokamyr::Shared) -> Shared {
+    Shared { state: from_library(&shared.state), second: from_flags(shared.second) }
+}
+
+fn to_flags(Flags { n, z, c, v }: Flags) -> plokamyr::Flags {
+    plokamyr::Flags { n, z, c, v }
+}
+
+fn from_flags(plokamyr::Flags { n, z, c, v }: plokamyr::Flags) -> Flags {
+    Flags { n, z, c, v }
+}
+
 fn to_library(state: &State) -> plokamyr::State {
-    let Flags { n, z, c, v } = state.flags;
     let mut library = plokamyr::State::new(state.vl, state.level);
     library.access = state.access;
-    library.flags = plokamyr::Flags { n, z, c, v };
+    library.flags = to_flags(state.flags);
     library.x = state.x;
     library.set_all_p(state.p.map(|words| Predicate { words }));
     library.ffr = Predicate { words: state.ffr };
@@ -101,12 +141,11 @@ fn to_library(state: &State) -> plokamyr::State {
 }
 
 fn from_library(state: &plokamyr::State) -> State {
-    let plokamyr::Flags { n, z, c, v } = state.flags;
     State {
         vl: state.vl(),
         level: state.level,
         access: state.access,
-        flags: Flags { n, z, c, v },
+        flags: from_flags(state.flags),
         x: state.x,
         p: state.p().map(|predicate| predicate.words),
         ffr: state.ffr.words,

@@ -3,7 +3,7 @@
 use crate::lent::Lent;
 use compare::instructions::FORMS;
 use compare::states;
-use model::State;
+use model::{Shared, State};
 use std::fmt::{Debug, LowerHex, Write};
 
 /// A line for each field that differs.
@@ -44,6 +44,11 @@ impl Differences {
         for i in 0..16 {
             self.field(&format!("counts of p{i}"), library.counts[i], second.counts[i]);
         }
+    }
+
+    pub fn shared(&mut self, library: &Shared, second: &Shared) {
+        self.state(&library.state, &second.state);
+        self.field("flags of the second kernel", library.second, second.second);
     }
 
     /// The counts that a state has, against those of its predicates.
@@ -90,6 +95,10 @@ pub fn show_state(state: &State) -> String {
         writeln!(text, "p{i} {}, counts {counts:?}", predicate(words)).expect("a string has room");
     }
     text + &format!("ffr {}\n", predicate(&state.ffr))
+}
+
+pub fn show_shared(shared: &Shared) -> String {
+    format!("{}flags of the second kernel {:?}\n", show_state(&shared.state), shared.second)
 }
 
 /// The word and its row.

@@ -24,7 +24,28 @@ pub const FORMS: [&str; 17] = [
     "RDFFRS under Pg",
 ];
 
-/// The widths of each form's fields, from the highest bit of the word down.
+/// The names of each form's fields, from the highest bit of the word down.
+pub const FIELDS: [&[&str]; FORMS.len()] = [
+    &["size", "Rm", "sf", "U", "lt", "Rn", "eq", "Pd"],
+    &["size", "Rm", "U", "lt", "Rn", "Pd", "eq"],
+    &["size", "Rm", "vl", "U", "lt", "Rn", "eq", "PNd"],
+    &["size", "D", "U", "sf", "Pm", "Rdn"],
+    &["size", "D", "Pm", "Rdn"],
+    &["size", "Pg", "Pn", "Rd"],
+    &["size", "vl", "PNn", "Rd"],
+    &["size", "Pv", "Pdn"],
+    &["Pg", "Pdn"],
+    &["Pg", "Pn"],
+    &["Pd"],
+    &["op", "S", "Pm", "Pg", "o2", "Pn", "o3", "Pd"],
+    &[],
+    &["Pn"],
+    &["Pd"],
+    &["Pg", "Pd"],
+    &["Pg", "Pd"],
+];
+
+/// The widths of each form's fields.
 pub const WIDTHS: [&[u8]; FORMS.len()] = [
     &[2, 5, 1, 1, 1, 5, 1, 4],
     &[2, 5, 1, 1, 5, 3, 1],
@@ -61,8 +82,9 @@ pub const INC_DEC: u8 = 4;
 /// The number of PNEXT. The fields are size, Pv, Pdn.
 pub const PNEXT: u8 = 7;
 
-/// The numbers of PFIRST and PFALSE. The fields are Pg, Pdn; Pd.
+/// The numbers of PFIRST, PTEST and PFALSE. The fields are Pg, Pdn; Pg, Pn; Pd.
 pub const PFIRST: u8 = 8;
+pub const PTEST: u8 = 9;
 pub const PFALSE: u8 = 10;
 
 /// The number of predicate logic. The fields are op, S, Pm, Pg, o2, Pn, o3, Pd.
@@ -106,6 +128,12 @@ pub fn logic_word(row: &Row) -> u32 {
 pub fn is_left_out_word(word: u32) -> bool {
     let [none, all] = [0, 15].map(|p| logic_word(&[LOGIC, 0, 1, p, p, 1, p, 1, p]));
     word & !(none ^ all) == none
+}
+
+/// The lowest level at which a word of ours is not refused with 2.
+pub fn level_of(word: u32) -> u8 {
+    let at = |level: u8| model::step(&mut State { level, access: true, ..State::zero() }, word);
+    (0..=3).find(|&level| at(level) != 2).expect("no form asks more than 3")
 }
 
 /// A row that the form has: every field in range, often with the same register twice, or X31.

@@ -27,6 +27,8 @@ pub enum Forms {
     None,
     Each,
     EachAtEachLength,
+    /// As before, but none of FFR's: neither of two kernels may execute one.
+    EachButFfrsAtEachLength,
 }
 
 /// Runs every case; false if one differs or if something was never seen.

@@ -17,13 +17,18 @@ mod images;
 mod kind;
 mod lent;
 mod logic;
+mod owners;
+mod schedules;
 mod searches;
 mod seen;
 mod steps;
 mod strays;
+mod taken;
 mod texts;
+mod walk_owners;
 mod walks;
 mod whiles;
+mod why;
 mod words;
 mod wrffr;
 mod writes;
@@ -45,7 +50,7 @@ fn entry<K: Kind>() -> Entry {
     Entry { name: K::NAME, all: run_all::<K>, one: run_case::<K> }
 }
 
-fn entries() -> [Entry; 21] {
+fn entries() -> [Entry; 25] {
     [
         entry::<steps::Steps>(),
         entry::<steps::Runs>(),
@@ -61,6 +66,10 @@ fn entries() -> [Entry; 21] {
         entry::<chains::Chains>(),
         entry::<walks::Walks>(),
         entry::<budgets::Budgets>(),
+        entry::<owners::Owners>(),
+        entry::<walk_owners::WalkOwners>(),
+        entry::<schedules::Schedules>(),
+        entry::<why::Why>(),
         entry::<images::Reads>(),
         entry::<images::Cuts>(),
         entry::<images::Damages>(),

@@ -2,11 +2,12 @@
 
 use crate::kind::Forms;
 use compare::instructions::FORMS;
+use compare::kernels::is_of_ffr;
 use compare::states::LENGTHS;
 use model::Row;
 
 /// The replies of the second program are the numbers below this.
-const REPLIES: u8 = 15;
+const REPLIES: u8 = 16;
 
 pub struct Seen {
     pub cases: u64,
@@ -77,8 +78,16 @@ impl Seen {
             if forms == Forms::Each && total == 0 {
                 missing.push(FORMS[form].to_string());
             }
-            let empty = (0..LENGTHS.len()).filter(|&length| forms == Forms::EachAtEachLength && counts[length] == 0);
+            let (at_each_length, none) = match forms {
+                Forms::EachAtEachLength => (true, false),
+                Forms::EachButFfrsAtEachLength => (!is_of_ffr(form as u8), is_of_ffr(form as u8)),
+                _ => (false, false),
+            };
+            let empty = (0..LENGTHS.len()).filter(|&length| at_each_length && counts[length] == 0);
             missing.extend(empty.map(|length| format!("{} at {}", FORMS[form], LENGTHS[length])));
+            if none && total > 0 {
+                missing.push(format!("{}, or it should not be there", FORMS[form]));
+            }
         }
         missing.extend(self.notes.iter().filter(|note| note.1 == 0).map(|note| note.0.to_string()));
         missing
@@ -107,6 +116,22 @@ mod tests {
         (0..others.len()).for_each(|form| seen.form(&[form as u8, 0, 0, 0, 0, 0, 0, 0, 0], 128));
         assert_eq!(seen.missing(&[0], Forms::Each), [*last]);
         assert_eq!(seen.missing(&[], Forms::None).len(), 1); // a reply that the kind cannot give
+    }
+
+    /// Of two kernels' forms those of FFR are missing if they are there, all others if they are not.
+    #[test]
+    fn forms_of_kernels() {
+        let ffrs = (0..FORMS.len()).filter(|&form| is_of_ffr(form as u8)).count();
+        let mut seen = Seen::new(&[]);
+        let missing = |seen: &Seen| seen.missing(&[], Forms::EachButFfrsAtEachLength).len();
+        assert_eq!(missing(&seen), (FORMS.len() - ffrs) * LENGTHS.len());
+        let rows = (0..FORMS.len() as u8).map(|form| [form, 0, 0, 0, 0, 0, 0, 0, 0]);
+        for row in rows.clone().filter(|row| !is_of_ffr(row[0])) {
+            LENGTHS.iter().for_each(|&length| seen.form(&row, length));
+        }
+        assert_eq!(missing(&seen), 0);
+        rows.for_each(|row| seen.form(&row, 128));
+        assert_eq!(missing(&seen), ffrs);
     }
 
     #[test]

@@ -30,8 +30,7 @@ pub fn legal(random: &mut Random, vl: u64) -> State {
     state.vl = vl;
     state.level = if random.one_in(4) { random.below(4) as u8 } else { 3 };
     state.access = !random.one_in(16);
-    let bits = random.next();
-    state.flags = Flags { n: bits & 1 != 0, z: bits & 2 != 0, c: bits & 4 != 0, v: bits & 8 != 0 };
+    state.flags = flags(random);
     let centre = if random.one_in(3) { random.next() } else { random.pick(&EDGES) };
     for x in &mut state.x {
         *x = operand(random, centre);
@@ -41,6 +40,12 @@ pub fn legal(random: &mut Random, vl: u64) -> State {
     }
     state.ffr = if random.one_in(4) { run(random.below(vl / 8 + 1)) } else { predicate(random, vl) };
     state
+}
+
+/// Any flags.
+pub fn flags(random: &mut Random) -> Flags {
+    let bits = random.next();
+    Flags { n: bits & 1 != 0, z: bits & 2 != 0, c: bits & 4 != 0, v: bits & 8 != 0 }
 }
 
 /// Writes a predicate, with its counts. Cases write predicates by this alone, since a state with a wrong count is refused.

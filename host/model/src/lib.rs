@@ -8,6 +8,7 @@ mod counter;
 mod execute;
 mod image;
 mod reply;
+mod shared;
 mod state;
 mod step;
 mod text;
@@ -15,6 +16,7 @@ mod walk;
 mod words;
 
 pub use image::{read, write, Reading, Written};
+pub use shared::{shared_step, shared_walk, Kernel, Shared, SharedWalked};
 pub use state::{Flags, State};
 pub use step::{run, step, Ran};
 pub use text::{text, text_in};

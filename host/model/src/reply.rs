@@ -15,3 +15,4 @@ pub const LIST_TOO_SHORT: u8 = 11;
 pub const BUDGET_SPENT: u8 = 12;
 pub const UNSUPPORTED_FORM: u8 = 13; // request K4
 pub const NOT_MONOTONIC: u8 = 14; // request K5
+pub const NOT_OWNED: u8 = 15; // request K7

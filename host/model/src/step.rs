@@ -17,22 +17,35 @@ pub struct Ran {
 /// Executes a word on the state where it stands. "Step order: 4, 1, 2, 3", "13 stands in 1's place in every order", and "new
 /// reply 14, after 3": 4, 1 or 13, 2, 3, 14. Refused, it leaves the state as it was.
 pub fn step(state: &mut State, word: u32) -> u8 {
+    match admitted(state, word) {
+        Ok(row) => finish(state, &row),
+        Err(refusal) => refusal,
+    }
+}
+
+/// The instruction of a word, if it is past 4, 1 or 13, 2 and 3.
+pub fn admitted(state: &State, word: u32) -> Result<Row, u8> {
     if !state.legal() {
-        return ILLEGAL_STATE;
+        return Err(ILLEGAL_STATE);
     }
     let Some(row) = decode(word) else {
-        return decode_refusal(word);
+        return Err(decode_refusal(word));
     };
     if state.level < level(&row) {
-        return LEVEL_TOO_LOW;
+        return Err(LEVEL_TOO_LOW);
     }
     if !state.access {
-        return ACCESS_OFF;
+        return Err(ACCESS_OFF);
     }
-    if !may_be_written(state, &row) {
+    Ok(row)
+}
+
+/// Executes an instruction, or refuses it with 14.
+pub fn finish(state: &mut State, row: &Row) -> u8 {
+    if !may_be_written(state, row) {
         return NOT_MONOTONIC;
     }
-    execute(state, &row);
+    execute(state, row);
     DONE
 }
 

@@ -14,12 +14,12 @@ pub struct Walked {
 }
 
 /// The walk's registers: Xn (start), Xm (limit), Pd (lanes), Pk (cursor), and the size.
-struct Registers {
+pub struct Registers {
     size: u8,
-    n: u8,
-    m: u8,
-    d: u8,
-    k: u8,
+    pub n: u8,
+    pub m: u8,
+    pub d: u8,
+    pub k: u8,
 }
 
 /// The instructions of the walk.
@@ -32,23 +32,39 @@ enum Instruction {
 
 #[allow(clippy::too_many_arguments)] // the interface's own
 pub fn walk(state: &State, size: u32, n: u32, m: u32, d: u32, k: u32, list: &mut [u64], budget: u64) -> Walked {
-    let refused = |reply| Walked { reply, count: 0, visited: 0, state: state.clone() };
+    match admitted(state, size, n, m, d, k) {
+        Ok(registers) => finish(state, &registers, list, budget),
+        Err(refusal) => refused(state, refusal),
+    }
+}
+
+fn refused(state: &State, reply: u8) -> Walked {
+    Walked { reply, count: 0, visited: 0, state: state.clone() }
+}
+
+/// The walk's registers, if it is past 4, 10, 2 and 3.
+pub fn admitted(state: &State, size: u32, n: u32, m: u32, d: u32, k: u32) -> Result<Registers, u8> {
     if !state.legal() {
-        return refused(ILLEGAL_STATE);
+        return Err(ILLEGAL_STATE);
     }
     let Some(registers) = Registers::new(size, n, m, d, k) else {
-        return refused(BAD_WALK_REGISTERS);
+        return Err(BAD_WALK_REGISTERS);
     };
     if state.level == 0 {
-        return refused(LEVEL_TOO_LOW);
+        return Err(LEVEL_TOO_LOW);
     }
     if !state.access {
-        return refused(ACCESS_OFF);
+        return Err(ACCESS_OFF);
     }
+    Ok(registers)
+}
+
+/// Walks, or refuses to with 11 or, on the way, with 12.
+pub fn finish(state: &State, registers: &Registers, list: &mut [u64], budget: u64) -> Walked {
     if (list.len() as u64) < registers.distance(state) {
-        return refused(LIST_TOO_SHORT);
+        return refused(state, LIST_TOO_SHORT);
     }
-    plain_walk(state.clone(), &registers, list, budget)
+    plain_walk(state.clone(), registers, list, budget)
 }
 
 fn plain_walk(mut state: State, registers: &Registers, list: &mut [u64], budget: u64) -> Walked {

@@ -3,7 +3,7 @@
 //! Each call is safe if what the header asks of a caller is there: pointers valid for their counts, buffers that do not
 //! overlap, bools of 0 or 1. A `bool` of Rust is one, and the library hands back no other.
 
-use crate::{Counts, Flags, Predicate, Reply, State};
+use crate::{Counts, Flags, Kernel, Predicate, Reply, Shared, State};
 use std::mem::{align_of, size_of};
 use std::ptr::addr_of_mut;
 
@@ -23,6 +23,20 @@ pub struct Walked {
     pub count: u64,
     pub visited: usize,
     pub state: State,
+}
+
+#[repr(C)]
+pub struct SharedStepped {
+    pub reply: Number,
+    pub shared: Shared,
+}
+
+#[repr(C)]
+pub struct SharedWalked {
+    pub reply: Number,
+    pub count: u64,
+    pub visited: usize,
+    pub shared: Shared,
 }
 
 #[repr(C)]
@@ -62,6 +76,8 @@ const _: () = {
     assert!(size_of::<Predicate>() == 32 && size_of::<Flags>() == 4 && size_of::<Counts>() == 8);
     assert!(size_of::<State>() == 936 && align_of::<State>() == 8);
     assert!(size_of::<Ran>() == 16 && size_of::<Walked>() == 960);
+    assert!(size_of::<Shared>() == 944 && align_of::<Shared>() == 8);
+    assert!(size_of::<SharedStepped>() == 952 && size_of::<SharedWalked>() == 968);
     assert!(size_of::<Reading>() == 952 && size_of::<Written>() == 16);
 };
 
@@ -100,6 +116,19 @@ extern "C" {
         places: usize,
         budget: u64,
     ) -> Walked;
+    fn plokamyr_shared_step(shared: Shared, second: bool, word: u32) -> SharedStepped;
+    fn plokamyr_shared_walk(
+        shared: Shared,
+        second: bool,
+        size: u32,
+        n: u32,
+        m: u32,
+        d: u32,
+        k: u32,
+        list: *mut u64,
+        places: usize,
+        budget: u64,
+    ) -> SharedWalked;
     fn plokamyr_read(image: *const u8, length: usize, words: *mut u32, places: usize) -> Reading;
     fn plokamyr_write(state: State, words: *const u32, count: usize, image: *mut u8, room: usize) -> Written;
     fn plokamyr_text(image: *const u8, length: usize, text: *mut u8, room: usize) -> usize;
@@ -148,6 +177,23 @@ pub fn walk(state: &State, route: Route, list: &mut [u64], budget: u64) -> Walke
     let (places, length) = (list.as_mut_ptr(), list.len());
     // SAFETY: the list is lent for writing, for its length and for this call alone; the state is a copy.
     unsafe { plokamyr_walk(state.clone(), size, n, m, d, k, places, length, budget) }
+}
+
+/// What C is told of a kernel.
+fn is_second(kernel: Kernel) -> bool {
+    kernel == Kernel::Second
+}
+
+pub fn shared_step(shared: &Shared, kernel: Kernel, word: u32) -> SharedStepped {
+    // SAFETY: the shared state is a copy, and any is taken.
+    unsafe { plokamyr_shared_step(shared.clone(), is_second(kernel), word) }
+}
+
+pub fn shared_walk(shared: &Shared, kernel: Kernel, route: Route, list: &mut [u64], budget: u64) -> SharedWalked {
+    let Route { size, n, m, d, k } = route;
+    let (places, length) = (list.as_mut_ptr(), list.len());
+    // SAFETY: the list is lent for writing, for its length and for this call alone; the shared state is a copy.
+    unsafe { plokamyr_shared_walk(shared.clone(), is_second(kernel), size, n, m, d, k, places, length, budget) }
 }
 
 pub fn read(image: &[u8], words: &mut [u32]) -> Reading {
@@ -213,5 +259,16 @@ mod tests {
         assert_eq!(parts, (0, 8, 16));
         let written = Written { reply: 0, length: 0 };
         assert_eq!((at(&written, &written.reply), at(&written, &written.length)), (0, 8));
+    }
+
+    #[test]
+    fn shared_states_lie_where_c_has_them() {
+        let shared = Shared::new(128, 1);
+        assert_eq!((at(&shared, &shared.state), at(&shared, &shared.second)), (0, 936));
+        let stepped = SharedStepped { reply: 0, shared: shared.clone() };
+        assert_eq!((at(&stepped, &stepped.reply), at(&stepped, &stepped.shared)), (0, 8));
+        let walked = SharedWalked { reply: 0, count: 0, visited: 0, shared };
+        assert_eq!((at(&walked, &walked.reply), at(&walked, &walked.count)), (0, 8));
+        assert_eq!((at(&walked, &walked.visited), at(&walked, &walked.shared)), (16, 24));
     }
 }

@@ -23,9 +23,11 @@ mod calls;
 mod ffi;
 mod reply;
 mod row;
+mod shared;
 mod state;
 
 pub use calls::{read, text, text_in, walk, write, Reading, Walked, Written, IMAGE_MAX, TEXT_MAX, WORDS_MAX};
 pub use reply::Reply;
 pub use row::{decode, encode, Form, Row};
+pub use shared::{Kernel, Shared, SharedWalked};
 pub use state::{Counts, Flags, Predicate, Ran, State};

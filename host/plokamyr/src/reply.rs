@@ -22,7 +22,7 @@ use std::fmt;
 /// # fn of_a_step(reply: Reply) -> bool {
 /// match reply {
 ///     Done => true,
-///     ForeignWord | UnsupportedForm | LevelTooLow | AccessOff | IllegalState | NotMonotonic => false,
+///     ForeignWord | UnsupportedForm | LevelTooLow | AccessOff | IllegalState | NotMonotonic | NotOwned => false,
 ///     ImageCut | NotAllowed | TrailingBytes | BufferTooSmall => false,
 ///     FieldPastRange | BadWalkRegisters | ListTooShort | BudgetSpent => false,
 ///     Other(_) => false,
@@ -65,6 +65,8 @@ pub enum Reply {
     /// 14: WRFFR's Pn is not a run of ones from bit 0: a true bit stands above a false one. Arm calls such a run a monotonic
     /// predicate; the empty and the full one count.
     NotMonotonic,
+    /// 15: the word or the walk of a kernel names a register of the other kernel, or touches FFR. See [`Shared`](crate::Shared).
+    NotOwned,
     /// A number that has no name here. [`Reply::from_number`] gives it for no other.
     Other(u32),
 }
@@ -87,6 +89,7 @@ impl Reply {
         Reply::BudgetSpent,
         Reply::UnsupportedForm,
         Reply::NotMonotonic,
+        Reply::NotOwned,
     ];
 
     /// The reply of a number.
@@ -116,6 +119,7 @@ impl Reply {
             Reply::BudgetSpent => (12, "budget is spent before the walk has ended"),
             Reply::UnsupportedForm => (13, "form of the word is not supported, though its bits 31:24 are 00100101"),
             Reply::NotMonotonic => (14, "predicate to be written to FFR is not a run of ones from bit 0"),
+            Reply::NotOwned => (15, "register of the other kernel is named, or FFR is touched"),
             Reply::Other(number) => (number, "reply without a name here"),
         }
     }

@@ -1,7 +1,8 @@
 //! What `docs/FORMAT.md` says in tables and hex, held to the library and to an example.
 
-use plokamyr::{encode, read, text, write, Form, Predicate, Reply, Row, State, IMAGE_MAX, WORDS_MAX};
+use plokamyr::{encode, read, text, write, Form, Kernel, Predicate, Reply, Row, Shared, State, IMAGE_MAX, WORDS_MAX};
 use std::fs;
+use std::ops::RangeInclusive;
 use std::path::PathBuf;
 
 fn file(name: &str) -> Vec<u8> {
@@ -197,5 +198,28 @@ fn counts() {
             state.x[0]
         };
         assert_eq!((counted(last), counted(last + 1)), (vl / 4, 0));
+    }
+}
+
+/// The numbers of registers such as `X0 to X15`.
+fn numbers(registers: &str) -> RangeInclusive<u32> {
+    let number = |name: &str| name[1..].parse().expect("a number after X or P");
+    let (first, last) = registers.split_once(" to ").expect("the first and the last");
+    number(first)..=number(last)
+}
+
+/// What each kernel owns; INCP names an X and a P.
+#[test]
+fn owners() {
+    let section = section("Two kernels");
+    for (kernel, name) in [(Kernel::First, "the first"), (Kernel::Second, "the second")] {
+        let mut rows = section.lines().map(|line| line.split('|').map(str::trim).collect::<Vec<_>>());
+        let row = rows.find(|row| row.get(1) == Some(&name)).expect("a row for each kernel");
+        let (own_x, own_p) = (numbers(row[2]), numbers(row[3]));
+        for (x, p) in (0..32).flat_map(|x| (0..16).map(move |p| (x, p))) {
+            let owned = (x == 31 || own_x.contains(&x)) && own_p.contains(&p);
+            let reply = if owned { Reply::Done } else { Reply::NotOwned };
+            assert_eq!(Shared::new(128, 1).step(kernel, 0x252C_8800 | p << 5 | x), reply, "{kernel:?} x{x} p{p}");
+        }
     }
 }

@@ -1,6 +1,6 @@
 //! The numbers here are those of `include/plokamyr.h`, read from it. `PLOKAMYR_INCLUDE` is its folder if it lies elsewhere.
 
-use plokamyr::{Form, Reply, State, IMAGE_MAX, TEXT_MAX, WORDS_MAX};
+use plokamyr::{Form, Reply, Shared, State, IMAGE_MAX, TEXT_MAX, WORDS_MAX};
 use std::mem::size_of;
 use std::path::PathBuf;
 use std::{env, fs};
@@ -62,11 +62,13 @@ fn fields() {
     }
 }
 
-/// The size that the header asserts of a state, for C and for C++.
+/// The sizes that the header asserts of states, for C and for C++.
 #[test]
-fn size_of_a_state() {
-    let asserted = format!("sizeof(struct plokamyr_state) == {},", size_of::<State>());
-    assert_eq!(header().matches(&asserted).count(), 2);
+fn sizes_of_states() {
+    for (name, size) in [("state", size_of::<State>()), ("shared", size_of::<Shared>())] {
+        let asserted = format!("sizeof(struct plokamyr_{name}) == {size},");
+        assert_eq!(header().matches(&asserted).count(), 2, "{asserted}");
+    }
 }
 
 #[test]

@@ -1,7 +1,7 @@
 //! The wrapper over a library that is newer than it. `tests/newer/run` links one that answers with the numbers that it is
 //! told, and runs these; over any other they mean nothing.
 
-use plokamyr::{decode, encode, read, text, walk, write, Form, Predicate, Reply, Row, State};
+use plokamyr::{decode, encode, read, text, walk, write, Form, Kernel, Predicate, Reply, Row, Shared, State};
 
 /// Every number that has a name here, and some that have none.
 fn numbers() -> impl Iterator<Item = u32> {
@@ -29,6 +29,18 @@ fn a_reply_is_handed_on() {
         expect(write(&state, &[number], &mut []).reply, number);
     }
     assert_eq!(text(b"0 25104441 99 0000\n"), b"0 25104441 99 0000\n");
+}
+
+#[test]
+#[ignore = "for tests/newer/run"]
+fn a_reply_to_a_kernel_is_handed_on() {
+    for number in numbers() {
+        let mut shared = Shared::new(128, 1);
+        for kernel in [Kernel::First, Kernel::Second] {
+            expect(shared.step(kernel, number), number);
+            expect(shared.walk(kernel, number, 1, 2, 3, 4, &mut [], 0).reply, number);
+        }
+    }
 }
 
 /// The setters have the counts from the library, and count nothing themselves.

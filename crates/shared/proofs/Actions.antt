@@ -1,0 +1,374 @@
+-- One action of a kernel: what it answers and leaves follows from what is alike to that kernel; it changes nothing else; and a legal state stays legal. Assumes nothing.
+use mathlib.Core.Bool.{Bool, true, false, not, _||_}
+use mathlib.Core.List.{List, []}
+use mathlib.Core.Path.{_≡_, refl, sym, ap, ap₂, _∙_, subst, subst₂}
+use Prim.Native.Nat.{ℕ}
+use native.Mathlib.Omega.{arith}
+use lib.Dec.{leb, ltb}
+use lib.ListN.{length, List·getD-eq-default}
+use borrow.Author.Tests.{le-ltb, lt-leb, leb-true, ltb-true}
+use Rattle.predicates.specs.Predicate.{allFalse}
+use Rattle.tally.specs.Counts.{noCounts}
+use Rattle.replies.specs.declared.Reply.{Reply}
+use Rattle.replies.specs.declared.Reply.the-variants.{IllegalState}
+use Rattle.replies.specs.Reply.{isDone}
+use Rattle.registers.specs.declared.State.{State}
+use Rattle.registers.specs.Legal.{legal}
+use Rattle.registers.specs.State.{ffr, readX, readP, readCounts, withFlags}
+use Rattle.registers.proofs.Legality.{withFlags-legal}
+use Rattle.registers.proofs.Registers.{Sized}
+use Rattle.words.specs.Words.{decodeOf}
+use Rattle.machine.specs.declared.Stepped as Machine′
+use Rattle.machine.specs.Step as Machine
+use Rattle.machine.proofs.Steps.{Kept, pick-yes, pick-no, step-legal, step-kept}
+use Rattle.walk.specs.declared.Walked as Walk′
+use Rattle.walk.specs.Plain.{Walk}
+use Rattle.walk.specs.Walk as Walk
+use Rattle.walk.proofs.Answered.{answer-refused}
+use Rattle.walk.proofs.Kept.{walk-kept}
+use Rattle.shared.specs.declared.Kernel.{Kernel}
+use Rattle.shared.specs.declared.Kernel.the-variants.{First, Second}
+use Rattle.shared.specs.declared.Shared.{Shared}
+use Rattle.shared.specs.declared.Stepped.{Stepped}
+use Rattle.shared.specs.declared.Walked.{Walked}
+use Rattle.shared.specs.Ownership.{ownsX, ownsP, mayNameX, mayNameP, mayStep, mayWalk}
+use Rattle.shared.specs.Shared.{flagsFor, stateFor, sharedAfter, barred, stepOf, refusalOf, walkedFor, walkOf, listOf}
+use Rattle.shared.specs.Schedule.{Action, Answer, answerOf, afterAction, Alike}
+use Rattle.shared.specs.Schedule.Action.{step, walk}
+use Rattle.shared.proofs.Answers.{left-alone}
+use Rattle.shared.proofs.Same.{Same, Apart, both}
+use Rattle.shared.proofs.Acting.{after-same, barred-same, after-apart, all-walked, barred-refusal-same, Agreeing, walked-same, walked-apart}
+
+-- the other kernel
+abbrev pub other : Kernel → Kernel
+other First = Second
+other Second = First
+
+-- ---- what a kernel owns it may name, and the other may not
+
+module _ (who : Kernel) (r : ℕ) where
+  named-x : leb 31 r ≡ false → mayNameX who r ≡ ownsX who r
+  unfolding mayNameX
+  named-x h = ap (λ (b : Bool). b || ownsX who r) h
+
+  named-p : ltb ffr r ≡ false → mayNameP who r ≡ ownsP who r
+  unfolding mayNameP
+  named-p h = ap (λ (b : Bool). b || ownsP who r) h
+
+  or-true : (b : Bool) → (b || true) ≡ true
+  or-true true = refl
+  or-true false = refl
+
+  pub own-x : ownsX who r ≡ true → mayNameX who r ≡ true
+  unfolding mayNameX
+  own-x h = ap (λ (b : Bool). leb 31 r || b) h ∙ or-true (leb 31 r)
+
+  pub own-p : ownsP who r ≡ true → mayNameP who r ≡ true
+  unfolding mayNameP
+  own-p h = ap (λ (b : Bool). ltb ffr r || b) h ∙ or-true (ltb ffr r)
+
+pub others-x : (who : Kernel) (r : ℕ) → ownsX who r ≡ true → mayNameX (other who) r ≡ false
+others-x First r h = let l = ltb-true r 16 h in named-x Second r (lt-leb 31 r (omega arith)) ∙ rw (lt-leb 16 r l) refl
+others-x Second r h =
+    let (a, b) = both (leb 16 r) (ltb r 31) h in
+    let l = leb-true 16 r a in
+    named-x First r (lt-leb 31 r (ltb-true r 31 b)) ∙ le-ltb r 16 l
+
+pub others-p : (who : Kernel) (r : ℕ) → ownsP who r ≡ true → mayNameP (other who) r ≡ false
+others-p First r h = let l = ltb-true r 8 h in named-p Second r (le-ltb 16 r (omega arith)) ∙ rw (lt-leb 8 r l) refl
+others-p Second r h =
+    let (a, b) = both (leb 8 r) (ltb r ffr) h in
+    let l = leb-true 8 r a in
+    let m = ltb-true r 16 b in
+    named-p First r (le-ltb 16 r (omega arith)) ∙ le-ltb r 8 l
+
+pub nobodys : (who : Kernel) → mayNameP who ffr ≡ false
+unfolding mayNameP
+nobodys First = refl
+nobodys Second = refl
+
+-- ---- alike shared states, and the states as the kernel has them
+
+module _ (who : Kernel) (s t : Shared) (left : Sized (s .state)) (right : Sized (t .state)) where
+  pub alike-same : Alike who s t → Same who (stateFor who s) (stateFor who t)
+  unfolding stateFor withFlags
+  alike-same h = record {
+    vl = h .vl;
+    level = h .level;
+    access = h .access;
+    flags = h .flags;
+    x = x;
+    p = p;
+    counts = counts;
+    left = record { xs = left .xs; ps = left .ps; cs = left .cs };
+    right = record { xs = right .xs; ps = right .ps; cs = right .cs };
+  }
+    where
+      x : (r : ℕ) → mayNameX who r ≡ true → readX (s .state) r ≡ readX (t .state) r
+      x r m = go (leb 31 r) refl
+        where
+          go : (b : Bool) → leb 31 r ≡ b → readX (s .state) r ≡ readX (t .state) r
+          go true e = let l = leb-true 31 r e in List·getD-eq-default (s .state .x) 0 (omega (arith, left .xs)) ∙ sym (List·getD-eq-default (t .state .x) 0 (omega (arith, right .xs)))
+          go false e = h .x r (sym (named-x who r e) ∙ m)
+
+      p : (r : ℕ) → mayNameP who r ≡ true → readP (s .state) r ≡ readP (t .state) r
+      p r m = go (ltb ffr r) refl
+        where
+          go : (b : Bool) → ltb ffr r ≡ b → readP (s .state) r ≡ readP (t .state) r
+          go true e = let l = ltb-true 16 r e in List·getD-eq-default (s .state .p) allFalse (omega (arith, left .ps)) ∙ sym (List·getD-eq-default (t .state .p) allFalse (omega (arith, right .ps)))
+          go false e = h .p r (sym (named-p who r e) ∙ m)
+
+      counts : (r : ℕ) → mayNameP who r ≡ true → readCounts (s .state) r ≡ readCounts (t .state) r
+      counts r m = go (ltb ffr r) refl
+        where
+          go : (b : Bool) → ltb ffr r ≡ b → readCounts (s .state) r ≡ readCounts (t .state) r
+          go true e = let l = ltb-true 16 r e in List·getD-eq-default (s .state .counts) noCounts (omega (arith, left .cs)) ∙ sym (List·getD-eq-default (t .state .counts) noCounts (omega (arith, right .cs)))
+          go false e = h .counts r (sym (named-p who r e) ∙ m)
+
+pub same-alike : (who : Kernel) (s t : Shared) (a b : State) → Same who a b → Alike who (sharedAfter who s a) (sharedAfter who t b)
+unfolding sharedAfter withFlags
+same-alike First s t a b h =
+    record { vl = h .vl; level = h .level; access = h .access; x = λ r o. h .x r (own-x First r o); p = λ r o. h .p r (own-p First r o); counts = λ r o. h .counts r (own-p First r o); flags = h .flags }
+same-alike Second s t a b h =
+    record { vl = h .vl; level = h .level; access = h .access; x = λ r o. h .x r (own-x Second r o); p = λ r o. h .p r (own-p Second r o); counts = λ r o. h .counts r (own-p Second r o); flags = h .flags }
+
+-- ---- what an action leaves alone
+
+-- the second is the first but for what the kernel may name and for its flags
+pub record Frame (who : Kernel) (s t : Shared) : Type 0 where
+  pub vl : t .state .vl ≡ s .state .vl
+  pub level : t .state .level ≡ s .state .level
+  pub access : t .state .access ≡ s .state .access
+  pub x : (r : ℕ) → mayNameX who r ≡ false → readX (t .state) r ≡ readX (s .state) r
+  pub p : (r : ℕ) → mayNameP who r ≡ false → readP (t .state) r ≡ readP (s .state) r
+  pub counts : (r : ℕ) → mayNameP who r ≡ false → readCounts (t .state) r ≡ readCounts (s .state) r
+  pub flags : flagsFor (other who) t ≡ flagsFor (other who) s
+
+frame-none : (who : Kernel) (s : Shared) → Frame who s s
+frame-none who s = record { vl = refl; level = refl; access = refl; x = λ r h. refl; p = λ r h. refl; counts = λ r h. refl; flags = refl }
+
+apart-frame : (who : Kernel) (s : Shared) (b : State) → Apart who (stateFor who s) b → Frame who s (sharedAfter who s b)
+unfolding stateFor sharedAfter withFlags
+apart-frame First s b h = record { vl = h .vl; level = h .level; access = h .access; x = h .x; p = h .p; counts = h .counts; flags = refl }
+apart-frame Second s b h = record { vl = h .vl; level = h .level; access = h .access; x = h .x; p = h .p; counts = h .counts; flags = refl }
+
+-- what one kernel leaves alone is alike to the other
+pub frame-alike : (who : Kernel) (s t : Shared) → Frame (other who) s t → Alike who s t
+frame-alike who s t f = record {
+  vl = sym (f .vl);
+  level = sym (f .level);
+  access = sym (f .access);
+  x = λ r h. sym (f .x r (others-x who r h));
+  p = λ r h. sym (f .p r (others-p who r h));
+  counts = λ r h. sym (f .counts r (others-p who r h));
+  flags = back who (f .flags);
+}
+  where
+    back : (w : Kernel) → flagsFor (other (other w)) t ≡ flagsFor (other (other w)) s → flagsFor w s ≡ flagsFor w t
+    back First e = sym e
+    back Second e = sym e
+
+-- ---- legality
+
+-- flags do not bear on it
+pub for-legal : (who : Kernel) (s : Shared) → legal (stateFor who s) ≡ legal (s .state)
+unfolding stateFor
+for-legal who s = withFlags-legal (s .state) (flagsFor who s)
+
+illegal-step : (a : State) (w : ℕ) → legal a ≡ false → Machine.stepOf a w ≡ Machine.answered IllegalState a
+unfolding Machine.stepOf
+illegal-step a w h = pick-no _ _ _ h
+
+illegal-walk : (size n m d k : ℕ) (a : State) (places : ℕ) → legal a ≡ false → Walk.refusalOf size n m d k a places ≡ IllegalState
+unfolding Walk.refusalOf
+illegal-walk size n m d k a places h = pick-yes _ _ _ (ap not h)
+
+kept-for : (who : Kernel) (s : Shared) → Kept (s .state) → Kept (stateFor who s)
+unfolding stateFor withFlags
+kept-for who s k = record { legal-is = withFlags-legal (s .state) (flagsFor who s) ∙ k .legal-is; sized = record { xs = k .sized .xs; ps = k .sized .ps; cs = k .sized .cs } }
+
+kept-after : (who : Kernel) (s : Shared) (t : State) → Kept t → Kept (sharedAfter who s t .state)
+unfolding sharedAfter withFlags
+kept-after First s t k = k
+kept-after Second s t k = record { legal-is = withFlags-legal t (s .state .flags) ∙ k .legal-is; sized = record { xs = k .sized .xs; ps = k .sized .ps; cs = k .sized .cs } }
+
+-- ---- a step
+
+module _ (who : Kernel) (s : Shared) (w : ℕ) where
+  abbrev has : State
+  has = stateFor who s
+
+  pub step-may : mayStep who (decodeOf w) ≡ true → stepOf who s w ≡ record { reply = Machine.stepOf has w .reply; shared = sharedAfter who s (Machine.stepOf has w .state) }
+  unfolding stepOf
+  step-may h = pick-yes _ _ _ h
+
+  pub step-not : mayStep who (decodeOf w) ≡ false → stepOf who s w ≡ record { reply = barred (Machine.stepOf has w .reply); shared = s }
+  unfolding stepOf
+  step-not h = pick-no _ _ _ h
+
+  step-stays : Kept (s .state) → Kept (stepOf who s w .shared .state)
+  step-stays k = go (mayStep who (decodeOf w)) refl
+    where
+      go : (b : Bool) → mayStep who (decodeOf w) ≡ b → Kept (stepOf who s w .shared .state)
+      go true h = subst (λ (t : Stepped). Kept (t .shared .state)) (sym (step-may h)) (kept-after who s _ (step-kept has w (kept-for who s k)))
+      go false h = subst (λ (t : Stepped). Kept (t .shared .state)) (sym (step-not h)) k
+
+  pub step-frame : Kept (s .state) → Frame who s (stepOf who s w .shared)
+  step-frame k = go (mayStep who (decodeOf w)) refl
+    where
+      go : (b : Bool) → mayStep who (decodeOf w) ≡ b → Frame who s (stepOf who s w .shared)
+      go true h =
+          subst (λ (t : Stepped). Frame who s (t .shared)) (sym (step-may h))
+          (apart-frame who s _ (subst (λ (t : Machine′.Stepped). Apart who has (t .state)) (sym (step-legal has w (kept-for who s k .legal-is))) (after-apart who has (decodeOf w) h)))
+      go false h = subst (λ (t : Stepped). Frame who s (t .shared)) (sym (step-not h)) (frame-none who s)
+
+step-alike : (who : Kernel) (s t : Shared) (w : ℕ) → Kept (s .state) → Kept (t .state) → Alike who s t
+    → (stepOf who s w .reply ≡ stepOf who t w .reply) × Alike who (stepOf who s w .shared) (stepOf who t w .shared)
+step-alike who s t w ks kt h = go (mayStep who (decodeOf w)) refl
+  where
+    a : State
+    a = stateFor who s
+
+    b : State
+    b = stateFor who t
+
+    same : Same who a b
+    same = alike-same who s t (ks .sized) (kt .sized) h
+
+    sa : Machine.stepOf a w ≡ Machine.afterWord a (decodeOf w)
+    sa = step-legal a w (kept-for who s ks .legal-is)
+
+    sb : Machine.stepOf b w ≡ Machine.afterWord b (decodeOf w)
+    sb = step-legal b w (kept-for who t kt .legal-is)
+
+    go : (m : Bool) → mayStep who (decodeOf w) ≡ m → (stepOf who s w .reply ≡ stepOf who t w .reply) × Alike who (stepOf who s w .shared) (stepOf who t w .shared)
+    go true m =
+        let (e, q) = after-same who a b same (decodeOf w) m in
+        subst₂ (λ (x y : Stepped). (x .reply ≡ y .reply) × Alike who (x .shared) (y .shared)) (sym (step-may who s w m)) (sym (step-may who t w m))
+        (subst₂ (λ (x y : Machine′.Stepped). (x .reply ≡ y .reply) × Alike who (sharedAfter who s (x .state)) (sharedAfter who t (y .state))) (sym sa) (sym sb) (e, same-alike who s t _ _ q))
+    go false m =
+        subst₂ (λ (x y : Stepped). (x .reply ≡ y .reply) × Alike who (x .shared) (y .shared)) (sym (step-not who s w m)) (sym (step-not who t w m))
+        (subst₂ (λ (x y : Machine′.Stepped). (barred (x .reply) ≡ barred (y .reply)) × Alike who s t) (sym sa) (sym sb) (barred-same who a b same (decodeOf w) m, h))
+
+-- ---- a walk
+
+module _ (who : Kernel) (size n m d k budget : ℕ) (s : Shared) (l : List ℕ) where
+  abbrev ordinary : Walk′.Walked
+  ordinary = Walk.walkOf size n m d k budget (stateFor who s) l
+
+  pub walk-may : mayWalk who n m d k ≡ true → walkOf who size n m d k budget s l ≡ walkedFor who s ordinary
+  unfolding walkOf
+  walk-may h = pick-yes _ _ _ h
+
+  pub walk-not : mayWalk who n m d k ≡ false
+      → walkOf who size n m d k budget s l ≡ record { reply = barred (Walk.refusalOf size n m d k (stateFor who s) (length l)); count = 0; visited = 0; shared = s }
+  unfolding walkOf refusalOf
+  walk-not h =
+      pick-no _ _ _ h
+      ∙ ap (λ (r : Reply). record { reply = r; count = 0; visited = 0; shared = s }) (pick-no _ (Walk.refusalOf size n m d k (stateFor who s) (length l)) (barred (Walk.refusalOf size n m d k (stateFor who s) (length l))) h)
+
+  pub list-may : mayWalk who n m d k ≡ true → listOf who size n m d k budget s l ≡ Walk.wholeOf size n m d k budget (stateFor who s) l .list
+  unfolding listOf
+  list-may h = pick-yes _ _ _ h
+
+  pub list-not : mayWalk who n m d k ≡ false → listOf who size n m d k budget s l ≡ l
+  unfolding listOf
+  list-not h = pick-no _ _ _ h
+
+  walk-stays : Kept (s .state) → Kept (walkOf who size n m d k budget s l .shared .state)
+  walk-stays h = go (mayWalk who n m d k) refl
+    where
+      go : (b : Bool) → mayWalk who n m d k ≡ b → Kept (walkOf who size n m d k budget s l .shared .state)
+      go true e =
+          let a = kept-for who s h in
+          subst (λ (r : Walked). Kept (r .shared .state)) (sym (walk-may e)) (kept-after who s _ (walk-kept size n m d k budget (stateFor who s) l (a .legal-is) (a .sized)))
+      go false e = subst (λ (r : Walked). Kept (r .shared .state)) (sym (walk-not e)) h
+
+  walk-frame : Frame who s (walkOf who size n m d k budget s l .shared)
+  walk-frame = go (mayWalk who n m d k) refl
+    where
+      go : (b : Bool) → mayWalk who n m d k ≡ b → Frame who s (walkOf who size n m d k budget s l .shared)
+      go true e =
+          subst (λ (r : Walked). Frame who s (r .shared)) (sym (walk-may e))
+          (apart-frame who s _ (walked-apart who size n m d k budget (stateFor who s) (stateFor who s) l (all-walked who n m d k e)))
+      go false e = subst (λ (r : Walked). Frame who s (r .shared)) (sym (walk-not e)) (frame-none who s)
+
+-- ---- either
+
+-- a legal state stays legal, refused or not
+pub action-kept : (who : Kernel) (s : Shared) (a : Action) → Kept (s .state) → Kept (afterAction who s a .state)
+action-kept who s (step w) h = step-stays who s w h
+action-kept who s (walk size n m d k budget l) h = walk-stays who size n m d k budget s l h
+
+-- nothing of the other kernel's changes, nor FFR
+pub action-frame : (who : Kernel) (s : Shared) (a : Action) → Kept (s .state) → Frame who s (afterAction who s a)
+action-frame who s (step w) h = step-frame who s w h
+action-frame who s (walk size n m d k budget l) h = walk-frame who size n m d k budget s l
+
+-- what is answered and left follows from what is alike to the kernel
+pub action-alike : (who : Kernel) (s t : Shared) (a : Action) → Kept (s .state) → Kept (t .state) → Alike who s t → (answerOf who s a ≡ answerOf who t a) × Alike who (afterAction who s a) (afterAction who t a)
+action-alike who s t (step w) ks kt h =
+    let (e, q) = step-alike who s t w ks kt h in
+    (ap (λ (r : Reply). record { reply = r; count = 0; visited = 0; list = [] }) e, q)
+action-alike who s t (walk size n m d k budget l) ks kt h = go (mayWalk who n m d k) refl
+  where
+    a : State
+    a = stateFor who s
+
+    b : State
+    b = stateFor who t
+
+    same : Same who a b
+    same = alike-same who s t (ks .sized) (kt .sized) h
+
+    legal-alike : legal a ≡ legal b
+    legal-alike = kept-for who s ks .legal-is ∙ sym (kept-for who t kt .legal-is)
+
+    answer : Walked → List ℕ → Answer
+    answer r l = record { reply = r .reply; count = r .count; visited = r .visited; list = l }
+
+    Alike′ : Walked → List ℕ → Walked → List ℕ → Type 0
+    Alike′ r l q o = (answer r l ≡ answer q o) × Alike who (r .shared) (q .shared)
+
+    agree : (r q : Walk′.Walked) (o u : List ℕ) → Agreeing who r q o u → Alike′ (walkedFor who s r) o (walkedFor who t q) u
+    agree r q o u g = (
+      ap₂ (λ (x : Reply) (c : ℕ). record { reply = x; count = c; visited = r .visited; list = o }) (g .reply) (g .count)
+          ∙ ap₂ (λ (v : ℕ) (x : List ℕ). record { reply = q .reply; count = q .count; visited = v; list = x }) (g .visited) (g .list),
+      same-alike who s t _ _ (g .state),
+    )
+
+    go : (z : Bool) → mayWalk who n m d k ≡ z → Alike′ (walkOf who size n m d k budget s l) (listOf who size n m d k budget s l) (walkOf who size n m d k budget t l) (listOf who size n m d k budget t l)
+    go true e =
+        subst₂ (λ (r : Walked) (q : Walked). Alike′ r (listOf who size n m d k budget s l) q (listOf who size n m d k budget t l)) (sym (walk-may who size n m d k budget s l e)) (sym (walk-may who size n m d k budget t l e))
+        (subst₂ (λ (o u : List ℕ). Alike′ (walkedFor who s (Walk.walkOf size n m d k budget a l)) o (walkedFor who t (Walk.walkOf size n m d k budget b l)) u)
+        (sym (list-may who size n m d k budget s l e)) (sym (list-may who size n m d k budget t l e))
+        (agree _ _ _ _ (walked-same who size n m d k budget a b l (all-walked who n m d k e) same legal-alike)))
+    go false e =
+        subst₂ (λ (r : Walked) (q : Walked). Alike′ r (listOf who size n m d k budget s l) q (listOf who size n m d k budget t l)) (sym (walk-not who size n m d k budget s l e)) (sym (walk-not who size n m d k budget t l e)) (
+          ap₂ (λ (x : Reply) (o : List ℕ). record { reply = x; count = 0; visited = 0; list = o })
+              (barred-refusal-same who a b same legal-alike size n m d k (length l)) (list-not who size n m d k budget s l e ∙ sym (list-not who size n m d k budget t l e)),
+          h,
+        )
+
+-- ---- a state that reply 4 refuses
+
+pub illegal-action : (who : Kernel) (s : Shared) (a : Action) → legal (s .state) ≡ false → afterAction who s a ≡ s
+illegal-action who s (step w) bad = go (mayStep who (decodeOf w)) refl
+  where
+    stays : Machine.stepOf (stateFor who s) w .state ≡ stateFor who s
+    stays = ap (λ (t : Machine′.Stepped). t .state) (illegal-step (stateFor who s) w (for-legal who s ∙ bad))
+
+    go : (b : Bool) → mayStep who (decodeOf w) ≡ b → stepOf who s w .shared ≡ s
+    go true h = ap (λ (t : Stepped). t .shared) (step-may who s w h) ∙ ap (sharedAfter who s) stays ∙ left-alone who s
+    go false h = ap (λ (t : Stepped). t .shared) (step-not who s w h)
+illegal-action who s (walk size n m d k budget l) bad = go (mayWalk who n m d k) refl
+  where
+    refused : Walk.refusalOf size n m d k (stateFor who s) (length l) ≡ IllegalState
+    refused = illegal-walk size n m d k (stateFor who s) (length l) (for-legal who s ∙ bad)
+
+    stays : Walk.walkOf size n m d k budget (stateFor who s) l .state ≡ stateFor who s
+    stays = ap (λ (r : Walk′.Walked). r .state) (answer-refused size n m d k budget (stateFor who s) l (ap isDone refused))
+
+    go : (b : Bool) → mayWalk who n m d k ≡ b → walkOf who size n m d k budget s l .shared ≡ s
+    go true h = ap (λ (r : Walked). r .shared) (walk-may who size n m d k budget s l h) ∙ ap (sharedAfter who s) stays ∙ left-alone who s
+    go false h = ap (λ (r : Walked). r .shared) (walk-not who size n m d k budget s l h)

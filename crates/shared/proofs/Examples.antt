@@ -1,0 +1,179 @@
+-- Two kernels at VL 128: replies and their order, computed from the definitions; what the theorems ask of states is met; and, for each rule of ownership, two states that are alike to a kernel but of which
+-- an ordinary step, which knows no owners, makes different things.
+use mathlib.Core.Bool.{Bool, true, false}
+use mathlib.Core.List.{List, [], _∷_, map}
+use mathlib.Core.Path.{_≡_, refl, sym}
+use Prim.Native.Nat.{ℕ}
+use native.Mathlib.Omega.{arith}
+use lib.ListN.{set, replicate, getD}
+use borrow.Author.Tests.{ltb-true}
+use Rattle.bits.specs.declared.Size.the-variants as Sz
+use Rattle.bits.specs.Bits.{testBit, number, elementBit}
+use Rattle.bits.specs.Search.{count, some, afterLast, scan}
+use Rattle.predicates.specs.PredTest.{atLowest, atHighest, predTest, nzcv, flagsOf}
+use Rattle.predicates.specs.Predicate.{bitAt, pack, active, spread, elements, predicateLength, hasBitFrom, monotonic, allFalse}
+use Rattle.tally.specs.Counts.{countsOf, sameCounts}
+use Rattle.replies.specs.Reply.{numberOf}
+use Rattle.registers.specs.Legal.{isLength, hasStrayBit, hasWrongCount, illegal}
+use Rattle.registers.specs.State.{allCounts, made, readX, readP, withX, withP, withFlags}
+use Rattle.registers.proofs.Registers.{readX-other, readP-other, readCounts-other}
+use Rattle.scalars.specs.declared.Condition.the-variants.{Less}
+use Rattle.scalars.specs.While.{operandAt, comparison}
+use Rattle.words.specs.declared.Instruction.{Instruction}
+use Rattle.words.specs.declared.Instruction.the-variants.{While, IncDec, Cntp, CntpCounter, Ptest, Pfalse, Setffr, Wrffr, Rdffr}
+use Rattle.words.specs.declared.Target.the-variants.{One, Pair, Counter}
+use Rattle.words.specs.Words.{readBy, wordOf}
+use Rattle.instructions.specs.Counter.{counterOf, counterFlags, countEnd, expanded, whileCounterOf, cntpCounterOf}
+use Rattle.instructions.specs.Counts.{incDecOf, cntpOf}
+use Rattle.instructions.specs.Ffr.{setffrOf}
+use Rattle.instructions.specs.Instructions.{computeOf}
+use Rattle.instructions.specs.Searches.{ptestOf}
+use Rattle.instructions.specs.Whiles.{allHeld, whileElement, whileOneOf, whilePairOf}
+use Rattle.machine.specs.Execute.{apply, executeOf}
+use Rattle.machine.specs.Step as Machine
+use Rattle.machine.proofs.Steps.{Kept}
+use Rattle.walk.specs.Plain.{run}
+use Rattle.walk.specs.Walk as Walk
+use Rattle.shared.specs.declared.Kernel.{Kernel}
+use Rattle.shared.specs.declared.Kernel.the-variants.{First, Second}
+use Rattle.shared.specs.declared.Shared.{Shared}
+use Rattle.shared.specs.Ownership.{mayNameX, mayNameP, mayName, mayStep, mayWalk}
+use Rattle.shared.specs.Shared.{stateFor, sharedAfter, standsAfter, stepOf, refusalOf, walkOf}
+use Rattle.shared.specs.Schedule.{Action, Turn, Alike, actionsOf}
+use Rattle.shared.specs.Schedule.Action.{step, walk}
+use Rattle.shared.proofs.Isolation.{Outcome, isolation}
+use Rattle.shared.proofs.Commuting.{Commutes, commuting}
+
+-- VL 128, level, access and X17 as given; P2 and P10 hold two words, FFR one byte, all else is zero
+start : ℕ → Bool → ℕ → Shared
+start level access x17 = record {
+  state =
+      made 128 level access (flagsOf 0) (set (replicate 31 0) 17 x17)
+      (set (set (set (replicate 17 allFalse) 2 (pack (testBit 0x0011))) 10 (pack (testBit 0x0011))) 16 (pack (testBit 1)));
+  second = flagsOf 0;
+}
+
+held : Shared
+held = start 3 true 0
+
+-- the replies to instructions, written as words, by the first kernel and by the second
+replies : Shared → List Instruction → List (List ℕ)
+replies s is = map (λ (i : Instruction). numberOf (stepOf First s (wordOf i) .reply) ∷ numberOf (stepOf Second s (wordOf i) .reply) ∷ []) is
+
+-- the replies to walks of words from Xn to Xm, with lanes Pd and cursor Pk, no place and no budget
+walks : Shared → List (ℕ × ℕ × ℕ × ℕ) → List (List ℕ)
+walks s ws = map (λ (w : ℕ × ℕ × ℕ × ℕ). numberOf (walkOf First 2 (w .0) (w .1) (w .2) (w .3) 0 s [] .reply) ∷ numberOf (walkOf Second 2 (w .0) (w .1) (w .2) (w .3) 0 s [] .reply) ∷ []) ws
+
+pub record Example : Type 0 where
+  pub got : List (List ℕ)
+  pub wanted : List (List ℕ)
+
+-- INCP of X15, X16, X30, X31 by P7 or P8; CNTP of P2 under P2, under P9, and of P9 under P2, into X1; WHILELO from X31 to X3 and to X16; the pair P6, P7 and the pair P8, P9; the counter; CNTP of PN8 into X16 and X1;
+-- SETFFR, WRFFR of P1, RDFFR; bits that are no instruction; then level 0 and access off; and walks
+pub examples : List Example
+examples =
+    record {
+      got = replies held (IncDec false Sz.S 7 15 ∷ IncDec false Sz.S 7 16 ∷ IncDec false Sz.S 8 16 ∷ IncDec false Sz.S 8 30 ∷ IncDec false Sz.S 7 31 ∷ IncDec false Sz.S 8 31 ∷ []);
+      wanted = (0 ∷ 15 ∷ []) ∷ (15 ∷ 15 ∷ []) ∷ (15 ∷ 0 ∷ []) ∷ (15 ∷ 0 ∷ []) ∷ (0 ∷ 15 ∷ []) ∷ (15 ∷ 0 ∷ []) ∷ [];
+    }
+    ∷ record {
+      got = replies held (Cntp Sz.S 2 2 1 ∷ Cntp Sz.S 9 2 1 ∷ Cntp Sz.S 2 9 1 ∷ Cntp Sz.S 9 9 16 ∷ []);
+      wanted = (0 ∷ 15 ∷ []) ∷ (15 ∷ 15 ∷ []) ∷ (15 ∷ 15 ∷ []) ∷ (15 ∷ 0 ∷ []) ∷ [];
+    }
+    ∷ record {
+      got = replies held (While Less true (One true 0) Sz.S 31 3 ∷ While Less true (One true 0) Sz.S 31 16 ∷ While Less true (One true 8) Sz.S 31 31 ∷ While Less true (Pair 3) Sz.S 1 2 ∷ While Less true (Pair 4) Sz.S 16 17 ∷ []);
+      wanted = (0 ∷ 15 ∷ []) ∷ (15 ∷ 15 ∷ []) ∷ (15 ∷ 0 ∷ []) ∷ (0 ∷ 15 ∷ []) ∷ (15 ∷ 0 ∷ []) ∷ [];
+    }
+    ∷ record {
+      got = replies held (While Less true (Counter false 0) Sz.S 31 31 ∷ CntpCounter false Sz.S 8 16 ∷ CntpCounter false Sz.S 7 1 ∷ CntpCounter false Sz.S 8 1 ∷ []);
+      wanted = (15 ∷ 0 ∷ []) ∷ (15 ∷ 0 ∷ []) ∷ (0 ∷ 15 ∷ []) ∷ (15 ∷ 15 ∷ []) ∷ [];
+    }
+    ∷ record { got = replies held (Setffr ∷ Wrffr 2 ∷ Wrffr 10 ∷ Rdffr 0 ∷ Rdffr 8 ∷ []); wanted = (15 ∷ 15 ∷ []) ∷ (15 ∷ 15 ∷ []) ∷ (15 ∷ 15 ∷ []) ∷ (15 ∷ 15 ∷ []) ∷ (15 ∷ 15 ∷ []) ∷ [] }
+    ∷ record { got = replies (start 0 true 0) (Pfalse 9 ∷ Setffr ∷ []); wanted = (2 ∷ 2 ∷ []) ∷ (2 ∷ 2 ∷ []) ∷ [] }
+    ∷ record { got = replies (start 3 false 0) (Pfalse 9 ∷ Setffr ∷ []); wanted = (3 ∷ 3 ∷ []) ∷ (3 ∷ 3 ∷ []) ∷ [] }
+    ∷ record { got = replies (start 4 true 0) (Pfalse 9 ∷ Setffr ∷ []); wanted = (4 ∷ 4 ∷ []) ∷ (4 ∷ 4 ∷ []) ∷ [] }
+    ∷ record { got = walks (start 3 true 5) ((1, 31, 0, 1) ∷ (1, 17, 0, 1) ∷ (16, 17, 8, 9) ∷ (16, 31, 8, 7) ∷ (16, 16, 8, 7) ∷ []); wanted = (12 ∷ 15 ∷ []) ∷ (15 ∷ 15 ∷ []) ∷ (15 ∷ 11 ∷ []) ∷ (15 ∷ 15 ∷ []) ∷ (10 ∷ 10 ∷ []) ∷ [] }
+    ∷ record { got = walks (start 0 true 5) ((1, 17, 0, 1) ∷ []); wanted = (2 ∷ 2 ∷ []) ∷ [] }
+    ∷ record { got = walks (start 3 false 5) ((1, 17, 0, 1) ∷ []); wanted = (3 ∷ 3 ∷ []) ∷ [] }
+    ∷ record { got = walks (start 4 true 5) ((1, 17, 0, 1) ∷ (1, 1, 0, 0) ∷ []); wanted = (4 ∷ 4 ∷ []) ∷ (4 ∷ 4 ∷ []) ∷ [] }
+    ∷ []
+
+pub as-wanted : map (λ e. e .got) examples ≡ map (λ e. e .wanted) examples
+unfolding start held replies walks examples testBit number elementBit count some afterLast scan bitAt pack active spread elements predicateLength hasBitFrom atLowest atHighest predTest nzcv flagsOf isLength hasStrayBit allCounts countsOf sameCounts hasWrongCount illegal withX withP withFlags readBy operandAt comparison allHeld whileElement counterOf counterFlags countEnd expanded whileOneOf whilePairOf whileCounterOf cntpCounterOf incDecOf cntpOf ptestOf monotonic setffrOf computeOf apply executeOf Machine.afterWord Machine.stepOf mayNameX mayNameP mayName mayStep mayWalk stateFor sharedAfter standsAfter stepOf refusalOf walkOf Walk.badRegisters Walk.refusalOf Walk.wholeOf Walk.walkOf run
+as-wanted = refl
+
+-- ---- what the theorems ask is met
+
+held-kept : Kept (held .state)
+unfolding start held testBit number count some bitAt pack active elements predicateLength hasBitFrom isLength hasStrayBit allCounts countsOf sameCounts hasWrongCount illegal
+held-kept = record { legal-is = refl; sized = record { xs = refl; ps = refl; cs = refl } }
+
+-- another X17, P9 and flags of the second's
+replaced : ℕ → ℕ → ℕ → Shared
+replaced x17 p9 flags = record { state = withP (withX (held .state) 17 x17) 9 (pack (testBit p9)); second = flagsOf flags }
+
+replaced-kept : Kept (replaced 7 0x0111 0b1010 .state)
+unfolding replaced start held testBit number count some bitAt pack active elements predicateLength hasBitFrom isLength hasStrayBit allCounts countsOf sameCounts hasWrongCount illegal withX withP
+replaced-kept = record { legal-is = refl; sized = record { xs = refl; ps = refl; cs = refl } }
+
+-- to the first kernel they are alike
+replaced-alike : (x17 p9 flags : ℕ) → Alike First held (replaced x17 p9 flags)
+unfolding replaced withX withP
+replaced-alike x17 p9 flags = record {
+  vl = refl;
+  level = refl;
+  access = refl;
+  x = λ r h. sym (readX-other (held .state) 17 r x17 (λ e. let l = ltb-true r 16 h in omega arith));
+  p = λ r h. sym (readP-other (withX (held .state) 17 x17) 9 r (pack (testBit p9)) (λ e. let l = ltb-true r 8 h in omega arith));
+  counts = λ r h. sym (readCounts-other (withX (held .state) 17 x17) 9 r (pack (testBit p9)) (λ e. let l = ltb-true r 8 h in omega arith));
+  flags = refl;
+}
+
+by-first : Action → Turn
+by-first a = record { kernel = First; action = a }
+
+by-second : Action → Turn
+by-second a = record { kernel = Second; action = a }
+
+count-words : Action
+count-words = step (wordOf (Cntp Sz.S 2 2 1))
+
+walk-words : Action
+walk-words = walk 2 3 1 4 5 100 (0 ∷ 0 ∷ [])
+
+-- a count and a walk of the first's among words of the second's, and among others, refused ones in both
+isolates : Outcome First held (replaced 7 0x0111 0b1010)
+    (by-second (step (wordOf (Pfalse 10))) ∷ by-first count-words ∷ by-first walk-words ∷ by-second (step (wordOf Setffr)) ∷ [])
+    (by-first count-words ∷ by-second (walk 2 16 17 8 9 100 (0 ∷ [])) ∷ by-second (step (wordOf (Pfalse 2))) ∷ by-first walk-words ∷ [])
+unfolding actionsOf by-first by-second
+isolates = isolation First held (replaced 7 0x0111 0b1010) _ _ held-kept replaced-kept (replaced-alike 7 0x0111 0b1010) refl
+
+commutes : Commutes held (held-kept .sized) count-words (step (wordOf (Ptest 10 10)))
+commutes = commuting held (held-kept .sized) count-words (step (wordOf (Ptest 10 10)))
+
+-- ---- why each rule is needed: without owners, what is alike to a kernel does not decide
+
+-- a word executed for a kernel, whoever owns its registers
+unowned : Kernel → Shared → Instruction → Shared
+unowned who s i = sharedAfter who s (Machine.stepOf (stateFor who s) (wordOf i) .state)
+
+low : Shared → ℕ → ℕ
+low s r = getD (readP (s .state) r .words) 0 0
+
+-- of the first kernel's P0, X1, X1, in `held` and in a state that is alike to it: a source X of the second's, a mask, a source P;
+-- of its X1, P2, P0 and flags, without and with a word of the second's before: a target X, a target P, FFR, and flags that are not kept apart
+pub needed : List Example
+needed =
+    record {
+      got = map (λ (s : Shared). low (unowned First s (While Less true (One true 0) Sz.S 31 17)) 0 ∷ readX (unowned First s (Cntp Sz.S 9 2 1) .state) 1 ∷ readX (unowned First s (Cntp Sz.S 2 9 1) .state) 1 ∷ []) (held ∷ replaced 1 0x0001 0 ∷ []);
+      wanted = (0 ∷ 0 ∷ 0 ∷ []) ∷ (1 ∷ 1 ∷ 1 ∷ []) ∷ [];
+    }
+    ∷ record { got = (readX (held .state) 1 ∷ []) ∷ (readX (unowned Second held (IncDec false Sz.S 10 1) .state) 1 ∷ []) ∷ []; wanted = (0 ∷ []) ∷ (2 ∷ []) ∷ [] }
+    ∷ record { got = (low held 2 ∷ []) ∷ (low (unowned Second held (Pfalse 2)) 2 ∷ []) ∷ []; wanted = (0x0011 ∷ []) ∷ (0 ∷ []) ∷ [] }
+    ∷ record { got = (low (unowned First held (Rdffr 0)) 0 ∷ []) ∷ (low (unowned First (unowned Second held Setffr) (Rdffr 0)) 0 ∷ []) ∷ []; wanted = (0x0001 ∷ []) ∷ (0xFFFF ∷ []) ∷ [] }
+    ∷ record { got = (nzcv (held .state .flags) ∷ []) ∷ (nzcv (Machine.stepOf (held .state) (wordOf (Ptest 10 10)) .state .flags) ∷ []) ∷ []; wanted = (0 ∷ []) ∷ (0b1000 ∷ []) ∷ [] }
+    ∷ []
+
+pub needed-as-wanted : map (λ e. e .got) needed ≡ map (λ e. e .wanted) needed
+unfolding start held replaced unowned low needed testBit number elementBit count some afterLast scan bitAt pack active spread elements predicateLength hasBitFrom atLowest atHighest predTest nzcv flagsOf isLength hasStrayBit allCounts countsOf sameCounts hasWrongCount illegal withX withP withFlags readBy operandAt comparison allHeld whileElement whileOneOf incDecOf cntpOf ptestOf monotonic setffrOf computeOf apply executeOf Machine.afterWord Machine.stepOf stateFor sharedAfter
+needed-as-wanted = refl

@@ -1,0 +1,10 @@
+-- Laws of the shared state. Callers' proofs cite them.
+pub mod Naming
+pub mod Answers
+pub mod Same
+pub mod Acting
+pub mod Actions
+pub mod Isolation
+pub mod Commuting
+pub mod Replies
+pub mod Examples

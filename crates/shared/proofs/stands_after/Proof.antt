@@ -1,0 +1,32 @@
+-- `stands_after` meets its contract. Assumes nothing.
+use borrow.Author.Needs.{needs}
+use Rattle.shared.specs.Shared.{standsAfter}
+use Rattle.shared.proofs.Answers.{standing}
+use Rattle.shared.proofs.stands_after.Statement.{statement}
+use Rattle.shared.proofs.stands_after.Tie as tie
+
+is-done-requires : tie.Need-is-done-requires
+is-done-requires c κs = search needs
+
+returns : tie.Need-returns
+unfolding standsAfter
+returns c = search (standing, needs) depth 12
+
+number-requires : tie.Need-number-requires
+number-requires c κs = search needs
+
+returns-2 : tie.Need-returns-2
+unfolding standsAfter
+returns-2 c = search (standing, needs) depth 12
+
+returns-3 : tie.Need-returns-3
+unfolding standsAfter
+returns-3 c = search (standing, needs) depth 12
+
+returns-4 : tie.Need-returns-4
+unfolding standsAfter
+returns-4 c = search (standing, needs) depth 12
+
+pub stands-after-spec : {M : Type 1} → statement M
+stands-after-spec =
+    tie.close (tie.spec is-done-requires returns number-requires returns-2 returns-3 returns-4)

@@ -1,0 +1,4 @@
+pub mod Ownership
+pub mod Shared
+pub mod Given
+pub mod Schedule
