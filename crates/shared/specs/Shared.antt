@@ -43,7 +43,7 @@ sharedAfter Second s t = record { state = withFlags t (s .state .flags); second 
 
 -- 15 stands before 14 of a word, before 11 and 12 of a walk, and before 0; every other refusal stands before it
 unfoldable pub standsAfter : Reply → Bool
-standsAfter r = isDone r || (eqb (numberOf r) 11 || (eqb (numberOf r) 12 || eqb (numberOf r) 14))
+standsAfter r = isDone r || (eqb (numberOf r) 14 || (eqb (numberOf r) 12 || eqb (numberOf r) 11))
 
 -- an ordinary reply where a register is not the kernel's: 15, or the one that stands before it
 abbrev pub barred : Reply → Reply

@@ -134,7 +134,7 @@ impl Kernel {
     }
 }
 
-// Whether 15 stands before a reply: it does before 0, 11, 12 and 14.
+// Whether 15 stands before a reply: it does before 0, 14, 12 and 11.
 fn stands_after(r: Reply) -> bool
     ensures { λ b. ⌜ b ≡ standsAfter r ⌝ }
 {
@@ -142,13 +142,13 @@ fn stands_after(r: Reply) -> bool
         return true;
     }
     let number = r.number();
-    if number == 11 {
+    if number == 14 {
         return true;
     }
     if number == 12 {
         return true;
     }
-    number == 14
+    number == 11
 }
 
 // An ordinary reply where a register is not the kernel's: 15, or the one that stands before it.
@@ -163,7 +163,7 @@ fn barred(r: Reply) -> Reply
 
 impl Shared {
     // The state with a kernel's flags.
-    pub fn state_for(self, kernel: Kernel) -> State
+    fn state_for(self, kernel: Kernel) -> State
         ensures { λ s. ⌜ s ≡ stateFor kernel self ⌝ }
     {
         let state = self.state;

@@ -214,12 +214,12 @@ mod tests {
     #[test]
     fn every_number_is_made() {
         let mut cases = HashSet::new();
-        for number in WalkOwners::numbers() {
+        for number in WalkOwners::numbers().take(Case::COUNT / DRAWS) {
             let (case, asked) = WalkOwners::make(1, number);
             assert_eq!(case, Case::new(number));
             let numbers = asked.iter().map(|asked| (asked.place, *register(&mut asked.tour.clone(), asked.place)));
             let made: HashSet<(usize, u32)> = numbers.collect();
-            assert_eq!((made.len(), asked.len()), (34 + 34 + 18 + 18, 34 + 34 + 18 + 18));
+            assert_eq!([made.len(), asked.len()], [NUMBERS.iter().sum::<u32>() as usize; 2]);
             for asked in asked {
                 let own = own_tour(&mut Random::new(1, 0, number), case.kernel);
                 let mut tour = asked.tour;

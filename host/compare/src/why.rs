@@ -19,6 +19,9 @@ const KIND: u64 = 36;
 /// At most so many are drawn until one breaks.
 const DRAWS: usize = 60;
 
+/// How far the X are from each other at most.
+const FAR: u64 = 40;
+
 /// The forms that write flags, but for FFR's.
 const FLAG_WRITERS: [u8; 7] = [WHILE_ONE, WHILE_PAIR, WHILE_COUNTER, PNEXT, PFIRST, PTEST, LOGIC];
 
@@ -70,9 +73,9 @@ impl Case {
     fn draw(&self, random: &mut Random) -> Draw {
         let kernel = self.kernel;
         let mut shared = kernels::ready(random, self.vl);
-        let centre = random.next();
+        let lowest = random.below(u64::MAX - FAR);
         for x in &mut shared.state.x {
-            *x = centre.wrapping_add(random.below(40));
+            *x = lowest + random.below(FAR);
         }
         let action = match self.breach {
             Breach::Field(field) => {
@@ -95,8 +98,9 @@ impl Case {
     }
 }
 
+/// With room and budget for any two X of the state.
 fn with_room(tour: Tour) -> Tour {
-    Tour { places: 50, budget: u64::MAX, ..tour }
+    Tour { places: FAR as usize, budget: u64::MAX, ..tour }
 }
 
 pub struct Why;
@@ -144,9 +148,9 @@ const FLAGS: &str = "the flags of both are written";
 
 /// With the rule: 15, and nothing is changed; of an accepted action, nothing of the other.
 fn check_kept(case: &Case, draw: &Draw, answer: &Answer, after: &Shared) -> Outcome {
-    let victim = other(case.kernel);
+    let idle = other(case.kernel);
     let kept = if case.is_of_flags() {
-        answer.reply == 0 && part_of(after, victim) == part_of(&draw.shared, victim)
+        answer.reply == 0 && part_of(after, idle) == part_of(&draw.shared, idle)
     } else {
         answer.reply == 15 && *after == draw.shared
     };
@@ -173,25 +177,25 @@ fn ordinary(shared: &Shared, turn: &Turn) -> (Answer, Shared) {
 
 /// How one kernel's outcome goes by the other, if it does.
 fn without_15(Draw { shared, alike, turn }: &Draw) -> Option<&'static str> {
-    let victim = other(turn.kernel);
+    let idle = other(turn.kernel);
     let (answer, after) = ordinary(shared, turn);
     let (again, alike_after) = ordinary(alike, turn);
     if answer != again || part_of(&after, turn.kernel) != part_of(&alike_after, turn.kernel) {
         return Some(READS);
     }
-    if part_of(&after, victim) != part_of(shared, victim) {
+    if part_of(&after, idle) != part_of(shared, idle) {
         return Some(WRITES);
     }
-    let rdffr = Turn { kernel: victim, action: Action::Word(short_word(RDFFR, &[own_p(victim).start])) };
-    let read = |shared: &Shared| part_of(&ordinary(shared, &rdffr).1, victim);
+    let rdffr = Turn { kernel: idle, action: Action::Word(short_word(RDFFR, &[own_p(idle).start])) };
+    let read = |shared: &Shared| part_of(&ordinary(shared, &rdffr).1, idle);
     (read(&after) != read(shared)).then_some(FFR)
 }
 
 /// With one set of flags for both, a turn writes those of the other.
 fn without_flags(Draw { shared, turn, .. }: &Draw) -> Option<&'static str> {
-    let victim = other(turn.kernel);
+    let idle = other(turn.kernel);
     let flags = |shared: &Shared| shared.state_of(turn.kernel).flags;
-    let one_set = shared.with(turn.kernel, shared.state_of(victim));
+    let one_set = shared.with(turn.kernel, shared.state_of(idle));
     (flags(&ordinary(&one_set, turn).1) != flags(&one_set)).then_some(FLAGS)
 }
 

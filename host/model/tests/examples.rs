@@ -1039,46 +1039,47 @@ fn each_register_has_its_owner() {
     }
 }
 
-/// A word of each form that names nothing but the first kernel's, and where its registers stand: X, and P.
-const OF_FIRST: [(&[u8], &[usize], &[usize]); 11] = [
-    (&[0, S, 1, 1, 1, 1, 14, 0, 7], &[2, 6], &[8]), // WHILELO p7.s, x14, x1
-    (&[1, S, 1, 1, 1, 14, 3, 0], &[2, 5], &[6]),    // WHILELO p6.s and p7.s, x14, x1
-    (&[3, S, 1, 1, 1, 7, 14], &[6], &[5]),          // UQDECP x14, p7.s
-    (&[4, S, 0, 7, 14], &[4], &[3]),                // INCP x14, p7.s
-    (&[5, S, 6, 7, 14], &[4], &[2, 3]),             // CNTP x14, p6, p7.s
-    (&[6, S, 0, 7, 14], &[4], &[3]),                // CNTP x14, pn7.s, two vectors
-    (&[7, S, 6, 7], &[], &[2, 3]),                  // PNEXT p7.s, p6, p7.s
-    (&[8, 6, 7], &[], &[1, 2]),                     // PFIRST p7.b, p6, p7.b
-    (&[9, 6, 7], &[], &[1, 2]),                     // PTEST p6, p7.b
-    (&[10, 7], &[], &[1]),                          // PFALSE p7.b
-    (&[11, 0, 1, 4, 5, 0, 6, 0, 7], &[], &[3, 4, 6, 8]), // ANDS p7.b, p5/z, p6.b, p4.b
+/// How far the other kernel's registers are from one's own: X, P, a pair of P.
+const X: u8 = 16;
+const P: u8 = 8;
+const PAIR: u8 = 4;
+
+/// Where a register stands in a row, and how far the other kernel's are.
+type Place = (usize, u8);
+
+/// A word of each form that names nothing but the first kernel's, and where its registers stand.
+const OF_FIRST: [(&[u8], &[Place]); 11] = [
+    (&[0, S, 1, 1, 1, 1, 14, 0, 7], &[(2, X), (6, X), (8, P)]), // WHILELO p7.s, x14, x1
+    (&[1, S, 1, 1, 1, 14, 3, 0], &[(2, X), (5, X), (6, PAIR)]), // WHILELO p6.s and p7.s, x14, x1
+    (&[3, S, 1, 1, 1, 7, 14], &[(5, P), (6, X)]),               // UQDECP x14, p7.s
+    (&[4, S, 0, 7, 14], &[(3, P), (4, X)]),                     // INCP x14, p7.s
+    (&[5, S, 6, 7, 14], &[(2, P), (3, P), (4, X)]),             // CNTP x14, p6, p7.s
+    (&[6, S, 0, 7, 14], &[(3, P), (4, X)]),                     // CNTP x14, pn7.s, two vectors
+    (&[7, S, 6, 7], &[(2, P), (3, P)]),                         // PNEXT p7.s, p6, p7.s
+    (&[8, 6, 7], &[(1, P), (2, P)]),                            // PFIRST p7.b, p6, p7.b
+    (&[9, 6, 7], &[(1, P), (2, P)]),                            // PTEST p6, p7.b
+    (&[10, 7], &[(1, P)]),                                      // PFALSE p7.b
+    (&[11, 0, 1, 4, 5, 0, 6, 0, 7], &[(3, P), (4, P), (6, P), (8, P)]), // ANDS p7.b, p5/z, p6.b, p4.b
 ];
 
 /// "Names a register of the other, as source, mask or target": each register of each form, one at a time. The second's words
-/// are those of the first with other numbers; a pair is counted by twos.
+/// are those of the first with other numbers.
 #[test]
 fn each_register_of_a_word_is_looked_at() {
-    for (row, xs, ps) in OF_FIRST {
-        let step_of_p = if row[0] == 1 { 4 } else { 8 };
-        let to_other = |row: &mut [u8], places: &[usize], distance: u8| {
-            places.iter().for_each(|&place| row[place] ^= distance);
-        };
-        let mut of_second = row.to_vec();
-        to_other(&mut of_second, xs, 16);
-        to_other(&mut of_second, ps, step_of_p);
-        for (kernel, row) in [(Kernel::First, row), (Kernel::Second, &of_second[..])] {
+    for (of_first, registers) in OF_FIRST {
+        let mut of_second = of_first.to_vec();
+        registers.iter().for_each(|&(place, distance)| of_second[place] += distance);
+        for (kernel, row) in [(Kernel::First, of_first), (Kernel::Second, &of_second[..])] {
             assert_eq!(shared_reply(kernel, row), 0, "{row:?}");
-            let places = xs.iter().map(|&x| (x, 16)).chain(ps.iter().map(|&p| (p, step_of_p)));
-            for (place, distance) in places {
-                let mut other = row.to_vec();
-                to_other(&mut other, &[place], distance);
-                assert_eq!(shared_reply(kernel, &other), 15, "{other:?}");
+            for &(place, distance) in registers {
+                let with = |number: u8| {
+                    let mut changed = row.to_vec();
+                    changed[place] = number;
+                    shared_reply(kernel, &changed)
+                };
+                assert_eq!(with(row[place] ^ distance), 15, "{row:?}, the other's at {place}");
+                assert!(distance != X || with(31) == 0, "{row:?}, 31 at {place}");
             }
-            xs.iter().for_each(|&x| {
-                let mut open = row.to_vec();
-                open[x] = 31;
-                assert_eq!(shared_reply(kernel, &open), 0, "{open:?}");
-            });
         }
     }
 }
