@@ -187,13 +187,13 @@ pub extern "C" fn plokamyr_shared_walk(
     ensures { λ r. ⌜ (Kernels.refusalOf (Kernels.kernelOf second) size n m d k shared (length (now (list .entry))) ≡ Done → Demand3 (sizeOf size) n m d k budget (Kernels.stateFor (Kernels.kernelOf second) shared) (now (list .entry)) (now (list .exit)) (Kernels.walkedBy (Kernels.kernelOf second) (Kernels.walkOf (Kernels.kernelOf second) size n m d k budget shared (now (list .entry))))) ⌝ }
 {
     let kernel = Kernel::of(second);
-    let walked = shared.walk(kernel, size, n, m, d, k, list, budget);
-    let reply = walked.reply;
-    let shared = walked.shared;
+    let answer = shared.walk(kernel, size, n, m, d, k, list, budget);
+    let reply = answer.reply;
+    let shared = answer.shared;
     SharedWalked {
         reply: reply.number() as u32,
-        count: walked.count,
-        visited: walked.visited,
+        count: answer.count,
+        visited: answer.visited,
         shared,
     }
 }

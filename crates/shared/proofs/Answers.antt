@@ -9,6 +9,7 @@ use lib.ListN.{length}
 use borrow.Author.Tests.{not-true, not-false, eq-eqb, ne-eqb}
 use Rattle.bits.specs.Choice.{pick}
 use Rattle.bits.proofs.Searches.{never}
+use Rattle.predicates.specs.declared.Flags.{Flags}
 use Rattle.replies.specs.declared.Reply.{Reply}
 use Rattle.replies.specs.declared.Reply.the-variants.{Done, NotOwned}
 use Rattle.replies.specs.Reply.{numberOf}
@@ -31,13 +32,9 @@ use Rattle.shared.specs.Shared.{flagsFor, stateFor, sharedAfter, standsA
 
 -- ---- whose flags stand where
 
-pub first-state : (who : Kernel) (s : Shared) → who ≡ First → s .state ≡ stateFor who s
-unfolding stateFor withFlags
-first-state who s e = ap (λ (w : Kernel). withFlags (s .state) (flagsFor w s)) (sym e)
-
-pub second-state : (who : Kernel) (s : Shared) (t : State) → who ≡ Second → t ≡ withFlags (s .state) (s .second) → t ≡ stateFor who s
+pub flagged : (who : Kernel) (s : Shared) (f : Flags) (t : State) → f ≡ flagsFor who s → t ≡ withFlags (s .state) f → t ≡ stateFor who s
 unfolding stateFor
-second-state who s t e h = h ∙ ap (λ (w : Kernel). withFlags (s .state) (flagsFor w s)) (sym e)
+flagged who s f t ef h = h ∙ ap (withFlags (s .state)) ef
 
 pub first-after : (who : Kernel) (s : Shared) (t : State) → who ≡ First → record { state = t; second = s .second } ≡ sharedAfter who s t
 unfolding sharedAfter

@@ -68,34 +68,18 @@ pub record Example : Type 0 where
   pub got : List (List ℕ)
   pub wanted : List (List ℕ)
 
--- INCP of X15, X16, X30, X31 by P7 or P8; CNTP of P2 under P2, under P9, and of P9 under P2, into X1; WHILELO from X31 to X3 and to X16; the pair P6, P7 and the pair P8, P9; the counter; CNTP of PN8 into X16 and X1;
--- SETFFR, WRFFR of P1, RDFFR; bits that are no instruction; then level 0 and access off; and walks
+-- INCP of X15 and of X16 by P7 and by P8, of X31; CNTP of P2 under P9; WHILELO from X31 to X16; the pair P6, P7 and the counter P8; WRFFR of P2 and RDFFR; then level 0 and access off; and walks
 pub examples : List Example
 examples =
     record {
-      got = replies held (IncDec false Sz.S 7 15 ∷ IncDec false Sz.S 7 16 ∷ IncDec false Sz.S 8 16 ∷ IncDec false Sz.S 8 30 ∷ IncDec false Sz.S 7 31 ∷ IncDec false Sz.S 8 31 ∷ []);
-      wanted = (0 ∷ 15 ∷ []) ∷ (15 ∷ 15 ∷ []) ∷ (15 ∷ 0 ∷ []) ∷ (15 ∷ 0 ∷ []) ∷ (0 ∷ 15 ∷ []) ∷ (15 ∷ 0 ∷ []) ∷ [];
+      got = replies held (IncDec false Sz.S 7 15 ∷ IncDec false Sz.S 7 16 ∷ IncDec false Sz.S 8 16 ∷ IncDec false Sz.S 8 31 ∷ Cntp Sz.S 9 2 1 ∷ While Less true (One true 0) Sz.S 31 16 ∷ While Less true (Pair 3) Sz.S 1 2 ∷ While Less true (Counter false 0) Sz.S 31 31 ∷ Wrffr 2 ∷ Rdffr 0 ∷ []);
+      wanted = (0 ∷ 15 ∷ []) ∷ (15 ∷ 15 ∷ []) ∷ (15 ∷ 0 ∷ []) ∷ (15 ∷ 0 ∷ []) ∷ (15 ∷ 15 ∷ []) ∷ (15 ∷ 15 ∷ []) ∷ (0 ∷ 15 ∷ []) ∷ (15 ∷ 0 ∷ []) ∷ (15 ∷ 15 ∷ []) ∷ (15 ∷ 15 ∷ []) ∷ [];
     }
-    ∷ record {
-      got = replies held (Cntp Sz.S 2 2 1 ∷ Cntp Sz.S 9 2 1 ∷ Cntp Sz.S 2 9 1 ∷ Cntp Sz.S 9 9 16 ∷ []);
-      wanted = (0 ∷ 15 ∷ []) ∷ (15 ∷ 15 ∷ []) ∷ (15 ∷ 15 ∷ []) ∷ (15 ∷ 0 ∷ []) ∷ [];
-    }
-    ∷ record {
-      got = replies held (While Less true (One true 0) Sz.S 31 3 ∷ While Less true (One true 0) Sz.S 31 16 ∷ While Less true (One true 8) Sz.S 31 31 ∷ While Less true (Pair 3) Sz.S 1 2 ∷ While Less true (Pair 4) Sz.S 16 17 ∷ []);
-      wanted = (0 ∷ 15 ∷ []) ∷ (15 ∷ 15 ∷ []) ∷ (15 ∷ 0 ∷ []) ∷ (0 ∷ 15 ∷ []) ∷ (15 ∷ 0 ∷ []) ∷ [];
-    }
-    ∷ record {
-      got = replies held (While Less true (Counter false 0) Sz.S 31 31 ∷ CntpCounter false Sz.S 8 16 ∷ CntpCounter false Sz.S 7 1 ∷ CntpCounter false Sz.S 8 1 ∷ []);
-      wanted = (15 ∷ 0 ∷ []) ∷ (15 ∷ 0 ∷ []) ∷ (0 ∷ 15 ∷ []) ∷ (15 ∷ 15 ∷ []) ∷ [];
-    }
-    ∷ record { got = replies held (Setffr ∷ Wrffr 2 ∷ Wrffr 10 ∷ Rdffr 0 ∷ Rdffr 8 ∷ []); wanted = (15 ∷ 15 ∷ []) ∷ (15 ∷ 15 ∷ []) ∷ (15 ∷ 15 ∷ []) ∷ (15 ∷ 15 ∷ []) ∷ (15 ∷ 15 ∷ []) ∷ [] }
-    ∷ record { got = replies (start 0 true 0) (Pfalse 9 ∷ Setffr ∷ []); wanted = (2 ∷ 2 ∷ []) ∷ (2 ∷ 2 ∷ []) ∷ [] }
-    ∷ record { got = replies (start 3 false 0) (Pfalse 9 ∷ Setffr ∷ []); wanted = (3 ∷ 3 ∷ []) ∷ (3 ∷ 3 ∷ []) ∷ [] }
-    ∷ record { got = replies (start 4 true 0) (Pfalse 9 ∷ Setffr ∷ []); wanted = (4 ∷ 4 ∷ []) ∷ (4 ∷ 4 ∷ []) ∷ [] }
-    ∷ record { got = walks (start 3 true 5) ((1, 31, 0, 1) ∷ (1, 17, 0, 1) ∷ (16, 17, 8, 9) ∷ (16, 31, 8, 7) ∷ (16, 16, 8, 7) ∷ []); wanted = (12 ∷ 15 ∷ []) ∷ (15 ∷ 15 ∷ []) ∷ (15 ∷ 11 ∷ []) ∷ (15 ∷ 15 ∷ []) ∷ (10 ∷ 10 ∷ []) ∷ [] }
-    ∷ record { got = walks (start 0 true 5) ((1, 17, 0, 1) ∷ []); wanted = (2 ∷ 2 ∷ []) ∷ [] }
+    ∷ record { got = replies (start 0 true 0) (Wrffr 2 ∷ []); wanted = (2 ∷ 2 ∷ []) ∷ [] }
+    ∷ record { got = replies (start 3 false 0) (Wrffr 2 ∷ []); wanted = (3 ∷ 3 ∷ []) ∷ [] }
+    ∷ record { got = walks (start 3 true 5) ((1, 31, 0, 1) ∷ (16, 17, 8, 9) ∷ (16, 16, 8, 7) ∷ []); wanted = (12 ∷ 15 ∷ []) ∷ (15 ∷ 11 ∷ []) ∷ (10 ∷ 10 ∷ []) ∷ [] }
     ∷ record { got = walks (start 3 false 5) ((1, 17, 0, 1) ∷ []); wanted = (3 ∷ 3 ∷ []) ∷ [] }
-    ∷ record { got = walks (start 4 true 5) ((1, 17, 0, 1) ∷ (1, 1, 0, 0) ∷ []); wanted = (4 ∷ 4 ∷ []) ∷ (4 ∷ 4 ∷ []) ∷ [] }
+    ∷ record { got = walks (start 4 true 5) ((1, 1, 0, 0) ∷ []); wanted = (4 ∷ 4 ∷ []) ∷ [] }
     ∷ []
 
 pub as-wanted : map (λ e. e .got) examples ≡ map (λ e. e .wanted) examples

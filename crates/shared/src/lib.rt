@@ -8,7 +8,7 @@ ghost use Rattle.replies.specs.declared.Reply.the-variants.{Done};
 ghost use Rattle.words.specs.Words.{sizeOf, decodeOf};
 ghost use Rattle.walk.specs.Demand.{Demand3};
 ghost use Rattle.shared.specs.Ownership.{mayNameX, mayNameP, mayName, mayStep, mayWalk};
-ghost use Rattle.shared.specs.Shared.{kernelOf, stateFor, sharedAfter, standsAfter, barred, stepOf, refusalOf, walkOf, listOf, walkedBy};
+ghost use Rattle.shared.specs.Shared.{kernelOf, flagsFor, stateFor, sharedAfter, standsAfter, barred, stepOf, refusalOf, walkOf, listOf, walkedBy};
 use instructions::Registers;
 use machine::Machine;
 use predicates::Flags;
@@ -42,6 +42,7 @@ pub struct Walked {
 }
 
 impl Kernel {
+    // The second if it is asked for, else the first.
     pub fn of(second: bool) -> Kernel
         ensures { λ k. ⌜ k ≡ kernelOf second ⌝ }
     {
@@ -162,18 +163,24 @@ fn barred(r: Reply) -> Reply
 }
 
 impl Shared {
+    fn flags_for(self, kernel: Kernel) -> Flags
+        ensures { λ f. ⌜ f ≡ flagsFor kernel self ⌝ }
+    {
+        match kernel {
+            Kernel::First => {
+                let state = self.state;
+                state.flags
+            }
+            Kernel::Second => self.second,
+        }
+    }
+
     // The state with a kernel's flags.
     fn state_for(self, kernel: Kernel) -> State
         ensures { λ s. ⌜ s ≡ stateFor kernel self ⌝ }
     {
         let state = self.state;
-        match kernel {
-            Kernel::First => state,
-            Kernel::Second => {
-                let flags = self.second;
-                state.with_flags(flags)
-            }
-        }
+        state.with_flags(self.flags_for(kernel))
     }
 
     // The registers that a kernel leaves, and its flags in their place.

@@ -90,6 +90,7 @@ impl Kind for Schedules {
         let taken = play(&schedule.shared, &schedule.turns)?;
         taken.iter().for_each(|taken| note(seen, schedule.shared.state.vl, taken));
         note_flags(seen, &schedule.shared, &taken);
+        compare_fixed(&schedule.shared, &taken)?;
         compare_alike(schedule, &taken, seen)?;
         compare_exchanged(&schedule.shared, &taken, seen)
     }
@@ -105,6 +106,15 @@ fn play(shared: &Shared, turns: &[Turn]) -> Result<Vec<Taken>, Vec<String>> {
         taken.push(Taken { turn, answer, after });
     }
     Ok(taken)
+}
+
+/// "Vector length, level and access are shared and fixed", and FFR is written by neither kernel.
+fn compare_fixed(shared: &Shared, taken: &[Taken]) -> Outcome {
+    let fixed = |Shared { state, .. }: &Shared| (state.vl, state.level, state.access, state.ffr);
+    match taken.iter().find(|taken| fixed(&taken.after) != fixed(shared)) {
+        Some(taken) => Err(vec!["a setting or FFR is another after".to_string(), show_turn(&taken.turn)]),
+        None => Ok(()),
+    }
 }
 
 /// A kernel's answers come out the same, and so do its registers and flags after each of its turns and at the end. So far the

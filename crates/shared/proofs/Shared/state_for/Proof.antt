@@ -1,23 +1,17 @@
 -- `state_for` meets its contract. Assumes nothing.
 use borrow.Author.Needs.{needs}
-use Rattle.shared.proofs.Answers.{first-state, second-state}
+use Rattle.shared.proofs.Answers.{flagged}
 use Rattle.shared.proofs.Shared.state_for.Statement.{statement}
 use Rattle.shared.proofs.Shared.state_for.Tie as tie
 
-enum-told : tie.Need-enum-told
-enum-told c = search needs
-
-enum-told-2 : tie.Need-enum-told-2
-enum-told-2 c = search needs
+flags-for-requires : tie.Need-flags-for-requires
+flags-for-requires c κs = search needs
 
 with-flags-requires : tie.Need-with-flags-requires
 with-flags-requires c κs = search needs
 
 returns : tie.Need-returns
-returns c = search (first-state, needs)
-
-returns-2 : tie.Need-returns-2
-returns-2 c = search (second-state, needs)
+returns c = search (flagged, needs)
 
 pub state-for-spec : {M : Type 1} → statement M
-state-for-spec = tie.close (tie.spec enum-told enum-told-2 with-flags-requires returns returns-2)
+state-for-spec = tie.close (tie.spec flags-for-requires with-flags-requires returns)
