@@ -1,14 +1,14 @@
 -- What the library's answers say of a record that is found to agree. Assumes nothing.
-use mathlib.Core.Bool.{Bool, true, false}
+use mathlib.Core.Bool.{Bool, true, false, not, Bool·beq}
 use mathlib.Core.List.{List, [], _∷_}
 use mathlib.Core.Path.{_≡_, refl, sym, ap, ap₂, _∙_, subst}
 use Prim.Native.Nat.{ℕ, zero, suc, _≤_, _<_}
 use native.Mathlib.Nat.{le-of-suc-le-suc, not-suc-le-zero}
 use native.Mathlib.Omega.{arith}
-use lib.Dec.{T}
+use lib.Dec.{T, eqb}
 use lib.ListN.{length, take, drop, getD, replicate, length-drop}
 use lib.Seq.{take-at}
-use borrow.Author.Tests.{eq-eqb}
+use borrow.Author.Tests.{eq-eqb, not-false}
 use Rattle.bits.specs.Choice.{pick}
 use Rattle.replies.specs.declared.Reply.{Reply}
 use Rattle.replies.specs.declared.Reply.the-variants as R
@@ -18,6 +18,11 @@ use Rattle.machine.specs.declared.Ran.{Ran}
 use Rattle.machine.specs.Step.{runOf}
 use Rattle.walk.specs.declared.Walked.{Walked}
 use Rattle.walk.specs.Walk.{walkOf, wholeOf}
+use Rattle.predicates.specs.declared.Flags.{Flags}
+use Rattle.predicates.specs.PredTest.{flagsOf}
+use Rattle.shared.specs.declared.Kernel.{Kernel}
+use Rattle.shared.specs.declared.Stepped.{Stepped}
+use Rattle.shared.specs.Shared.{kernelOf, stepOf}
 use Rattle.image.specs.declared.Reading.{Reading}
 use Rattle.image.specs.declared.Written.{Written}
 use Rattle.octets.specs.Bytes.{value, parts, over}
@@ -25,7 +30,7 @@ use Rattle.image.specs.Image.{imageOf}
 use Rattle.image.specs.Reading.{imageReply, stateOf, wordsOf, countOf, contentOf, wordsAt, blank, readOf, listAfter}
 use Rattle.image.specs.Writing.{writeReply, writtenOf, bufferAfter}
 use Rattle.octets.proofs.Bytes.{length-parts}
-use Rattle.vectors.specs.Records.{numberAt, block, pastBlock, ranOf, RunAgrees, ImageAgrees, walkedOf, listOf, Walks, unset, WalkAgrees}
+use Rattle.vectors.specs.Records.{numberAt, block, pastBlock, ranOf, RunAgrees, ImageAgrees, walkedOf, listOf, Walks, unset, WalkAgrees, turnOf, steppedOf, StepAgrees}
 
 pub never : {A : Type 0} → false ≡ true → A
 never e = absurd (subst T (sym e) tt)
@@ -170,6 +175,49 @@ walk-agrees rest image list asked r n places room ea ep few ei er en z h =
     record {
       whole = ap (λ (x : Reading). numberOf (x .reply)) (ap₂ readOf (sym room) (sym ei) ∙ sym er) ∙ nought;
       walks = rw (state-read image list r er nought ∙ ap stateOf ei, ea, before) at h;
+    }
+
+-- ---- a step
+
+pub turn : (asked : List ℕ) (s : State) (word b : ℕ) (second : Flags) (who : Kernel) (st : Stepped)
+    → second ≡ flagsOf (getD asked 1 0) → b ≡ getD asked 0 0 → who ≡ kernelOf (eqb b 1) → st ≡ stepOf who (record { state = s; second = second }) word
+    → st ≡ turnOf asked s word
+turn asked s word b second who st es eb ew est =
+    est ∙ ap₂ (λ (k : Kernel) (f : Flags). stepOf k (record { state = s; second = f }) word) (ew ∙ ap (λ (x : ℕ). kernelOf (eqb x 1)) eb) es
+
+bits-same : (a b : Bool) → Bool·beq a b ≡ true → a ≡ b
+bits-same true true e = refl
+bits-same true false e = sym e
+bits-same false true e = e
+bits-same false false e = refl
+
+pub flags-same : (f g : Flags) → not (Bool·beq (f .n) (g .n)) ≡ false → not (Bool·beq (f .z) (g .z)) ≡ false → not (Bool·beq (f .c) (g .c)) ≡ false → Bool·beq (f .v) (g .v) ≡ true
+    → f ≡ g
+flags-same f g n z c v = λ i. record {
+  n = bits-same (f .n) (g .n) (not-false (Bool·beq (f .n) (g .n)) n) i;
+  z = bits-same (f .z) (g .z) (not-false (Bool·beq (f .z) (g .z)) z) i;
+  c = bits-same (f .c) (g .c) (not-false (Bool·beq (f .c) (g .c)) c) i;
+  v = bits-same (f .v) (g .v) v i;
+}
+
+pub step-agrees : (rest image list filled ws asked end last : List ℕ) (r : Reading) (st : Stepped) (after : Flags) (n word m b : ℕ) → length list ≡ 4096
+    → image ≡ block rest → r ≡ readOf (length list) image → filled ≡ listAfter image list → n ≡ numberOf (r .reply) → n ≡ 0
+    → ws ≡ take (r .count) filled → word ≡ getD ws 0 0 → asked ≡ pastBlock rest → st ≡ turnOf asked (r .state) word
+    → m ≡ numberOf (st .reply) → b ≡ getD asked 2 0 → m ≡ b
+    → after ≡ flagsOf (getD asked 3 0) → st .shared .second ≡ after
+    → end ≡ drop 4 asked → last ≡ block end → imageOf (st .shared .state) [] ≡ last
+    → StepAgrees rest
+step-agrees rest image list filled ws asked end last r st after n word m b room ei er ef en z ews eword ea est em eb tb efl tfl ee el h =
+    let nought : numberOf (r .reply) ≡ 0 = sym en ∙ z in
+    let words : ws ≡ wordsOf image = ews ∙ words-read image list r er nought filled ef in
+    let state : r .state ≡ stateOf (block rest) = state-read image list r er nought ∙ ap stateOf ei in
+    let first : word ≡ getD (wordsOf (block rest)) 0 0 = eword ∙ ap (λ (l : List ℕ). getD l 0 0) (words ∙ ap wordsOf ei) in
+    let is : st ≡ steppedOf rest = est ∙ ap (λ (l : List ℕ). turnOf l (r .state) word) ea ∙ ap₂ (turnOf (pastBlock rest)) state first in
+    record {
+      whole = ap (λ (x : Reading). numberOf (x .reply)) (ap₂ readOf (sym room) (sym ei) ∙ sym er) ∙ nought;
+      reply = ap (λ (x : Stepped). numberOf (x .reply)) (sym is) ∙ sym em ∙ tb ∙ eb ∙ ap (λ (l : List ℕ). getD l 2 0) ea;
+      second = ap (λ (x : Stepped). x .shared .second) (sym is) ∙ tfl ∙ efl ∙ ap (λ (l : List ℕ). flagsOf (getD l 3 0)) ea;
+      after = ap (λ (x : Stepped). imageOf (x .shared .state) []) (sym is) ∙ h ∙ el ∙ ap block (ee ∙ ap (drop 4) ea);
     }
 
 -- ---- the records left: each has its kind at least

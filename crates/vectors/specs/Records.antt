@@ -2,13 +2,17 @@
 use Prim.Native.Nat.{ℕ}
 use mathlib.Core.List.{List, []}
 use mathlib.Core.Path.{_≡_}
+use lib.Dec.{eqb}
 use lib.ListN.{length, take, drop, getD, replicate}
+use Rattle.predicates.specs.PredTest.{flagsOf}
 use Rattle.registers.specs.declared.State.{State}
 use Rattle.replies.specs.Reply.{numberOf}
 use Rattle.machine.specs.declared.Ran.{Ran}
 use Rattle.machine.specs.Step.{runOf}
 use Rattle.walk.specs.declared.Walked.{Walked}
 use Rattle.walk.specs.Walk.{walkOf, wholeOf}
+use Rattle.shared.specs.declared.Stepped.{Stepped}
+use Rattle.shared.specs.Shared.{kernelOf, stepOf}
 pub use Rattle.octets.specs.Bytes.{numberAt}
 use Rattle.octets.specs.Bytes.{value, parts}
 use Rattle.image.specs.Image.{imageOf}
@@ -69,9 +73,26 @@ pub record WalkAgrees (rest : List ℕ) : Type 0 where
   pub whole : Whole (block rest)
   pub walks : Walks (stateOf (block rest)) (pastBlock rest) (unset (numberAt 5 4 (pastBlock rest)))
 
+-- ---- a step of one of two kernels: an image with a word; second (1), the second's flags (1), reply (1), the second's flags after (1), the image after
+
+-- a step with this word, of a state and the flags that stand beside it, for the kernel that is asked
+abbrev pub turnOf : List ℕ → State → ℕ → Stepped
+turnOf asked s word = stepOf (kernelOf (eqb (getD asked 0 0) 1)) (record { state = s; second = flagsOf (getD asked 1 0) }) word
+
+-- the word is the image's first, or 0
+abbrev pub steppedOf : List ℕ → Stepped
+steppedOf rest = turnOf (pastBlock rest) (stateOf (block rest)) (getD (wordsOf (block rest)) 0 0)
+
+pub record StepAgrees (rest : List ℕ) : Type 0 where
+  pub whole : Whole (block rest)
+  pub reply : numberOf (steppedOf rest .reply) ≡ getD (pastBlock rest) 2 0
+  pub second : steppedOf rest .shared .second ≡ flagsOf (getD (pastBlock rest) 3 0)
+  pub after : imageOf (steppedOf rest .shared .state) [] ≡ block (drop 4 (pastBlock rest))
+
 -- ---- a record, by its kind
 
 pub record Agrees (kind : ℕ) (rest : List ℕ) : Type 0 where
   pub run : kind ≡ 1 → RunAgrees rest
   pub image : kind ≡ 2 → ImageAgrees rest
   pub walk : kind ≡ 3 → WalkAgrees rest
+  pub step : kind ≡ 4 → StepAgrees rest

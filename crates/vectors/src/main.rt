@@ -6,12 +6,17 @@ ghost use mathlib.Core.Path.{_≡_};
 ghost use Prim.Native.Nat.{_≤_};
 ghost use lib.ListN.{length, take, getD};
 ghost use Rattle.octets.specs.Bytes.{value, parts};
+ghost use Rattle.predicates.specs.PredTest.{flagsOf};
 ghost use Rattle.image.specs.Image.{imageOf};
-ghost use Rattle.vectors.specs.Records.{block as blockOf, pastBlock, RunAgrees, ImageAgrees, Walks, WalkAgrees, Agrees};
+ghost use Rattle.vectors.specs.Records.{block as blockOf, pastBlock, RunAgrees, ImageAgrees, Walks, WalkAgrees, turnOf, StepAgrees, Agrees};
 use libc::STDIN_FILENO;
 use libc::STDOUT_FILENO;
 use machine::Machine;
+use predicates::Flags;
 use registers::State;
+use shared::Kernel;
+use shared::Shared;
+use shared::Stepped;
 
 // The image of a state and words; the reply (1 byte), the number of words done (4), the image of the state after.
 const RUN: u8 = 1;
@@ -20,6 +25,9 @@ const IMAGE: u8 = 2;
 // The image of a state; size, n, m, d, k (1 byte each), places (4), budget (8), reply (1), count (8), visited (4); the image of the state
 // after, and the list after (8 bytes a place).
 const WALK: u8 = 3;
+// The image of a state and a word; which of two kernels steps (1 byte: 1 for the second, else 0), the second's flags (1: NZCV), the reply
+// (1), the second's flags after (1), the image of the state after.
+const STEP: u8 = 4;
 
 // The largest number, which stands in each place of a list before a walk.
 const LARGEST: u64 = 0xFFFF_FFFF_FFFF_FFFF;
@@ -36,6 +44,7 @@ struct Tally {
     runs: Score,
     images: Score,
     walks: Score,
+    steps: Score,
 }
 
 fn main() {
@@ -56,6 +65,8 @@ fn judge(mut bytes: [u8; 900000]) {
     say_score(b"images ", images);
     let walks = tally.walks;
     say_score(b"walks ", walks);
+    let steps = tally.steps;
+    say_score(b"steps ", steps);
 }
 
 // The records one after the other, to the end or to the first that is malformed.
@@ -65,6 +76,7 @@ fn compare(bytes: &[u8]) -> Tally {
         runs: none,
         images: none,
         walks: none,
+        steps: none,
     };
     let mut number = 0;
     let mut left = bytes;
@@ -114,11 +126,13 @@ impl Tally {
         let runs = self.runs;
         let images = self.images;
         let walks = self.walks;
+        let steps = self.steps;
         if kind == RUN {
             return Tally {
                 runs: runs.scored(agrees),
                 images,
                 walks,
+                steps,
             };
         }
         if kind == IMAGE {
@@ -126,12 +140,22 @@ impl Tally {
                 runs,
                 images: images.scored(agrees),
                 walks,
+                steps,
+            };
+        }
+        if kind == WALK {
+            return Tally {
+                runs,
+                images,
+                walks: walks.scored(agrees),
+                steps,
             };
         }
         Tally {
             runs,
             images,
-            walks: walks.scored(agrees),
+            walks,
+            steps: steps.scored(agrees),
         }
     }
 }
@@ -168,6 +192,16 @@ fn first_words(ws: &[u32], n: usize) -> &[u32]
         return ws;
     }
     &ws[..n]
+}
+
+// The first word, or 0 if there is none.
+fn first_word(ws: &[u32]) -> u32
+    ensures { λ r. ⌜ r ≡ getD (now (ws .entry)) 0 0 ⌝ }
+{
+    if 0 < ws.len() {
+        return ws[0];
+    }
+    0
 }
 
 // A block is a length in four bytes, and then so many bytes.
@@ -212,6 +246,9 @@ fn is_whole(kind: u8, record: &[u8]) -> bool {
     }
     if kind == WALK {
         return walk_is_whole(rest);
+    }
+    if kind == STEP {
+        return step_is_whole(rest);
     }
     false
 }
@@ -262,6 +299,21 @@ fn walk_is_whole(rest: &[u8]) -> bool {
     past_block(end).len() == places * 8
 }
 
+fn step_is_whole(rest: &[u8]) -> bool {
+    if !has_block(rest) {
+        return false;
+    }
+    let asked = past_block(rest);
+    if asked.len() < 4 {
+        return false;
+    }
+    let end = octets::after(asked, 4);
+    if !has_block(end) {
+        return false;
+    }
+    past_block(end).len() == 0
+}
+
 // Whether the library answers a record as it says.
 
 fn holds(kind: u8, rest: &[u8]) -> bool
@@ -273,7 +325,10 @@ fn holds(kind: u8, rest: &[u8]) -> bool
     if kind == IMAGE {
         return image_agrees(rest);
     }
-    walk_agrees(rest)
+    if kind == WALK {
+        return walk_agrees(rest);
+    }
+    step_agrees(rest)
 }
 
 fn run_agrees(rest: &[u8]) -> bool
@@ -382,6 +437,63 @@ fn register(bs: &[u8], i: usize) -> u32
     ensures { λ r. ⌜ r ≡ getD (now (bs .entry)) i 0 ⌝ }
 {
     octets::byte(bs, i) as u32
+}
+
+fn step_agrees(rest: &[u8]) -> bool
+    ensures { λ r. ⌜ (r ≡ true → StepAgrees (now (rest .entry))) ⌝ }
+{
+    let mut words = [0u32; 4096];
+    let reading = image::read(block(rest), &mut words);
+    let read = reading.reply;
+    if read.number() != 0 {
+        return false;
+    }
+    let count = reading.count;
+    let state = reading.state;
+    let word = first_word(first_words(&words, count));
+    let asked = past_block(rest);
+    let stepped = step_of(state, word, asked);
+    let reply = stepped.reply;
+    if reply.number() != octets::byte(asked, 2) {
+        return false;
+    }
+    let shared = stepped.shared;
+    let second = shared.second;
+    if !same_flags(second, flags_at(asked, 3)) {
+        return false;
+    }
+    let last = shared.state;
+    state_is(last, block(octets::after(asked, 4)))
+}
+
+// The step that is asked for, of a state and the second kernel's flags beside it.
+fn step_of(state: State, word: u32, asked: &[u8]) -> Stepped
+    ensures { λ r. ⌜ r ≡ turnOf (now (asked .entry)) state word ⌝ }
+{
+    let second = flags_at(asked, 1);
+    let kernel = Kernel::of(octets::byte(asked, 0) == 1);
+    Shared { state, second }.step(kernel, word)
+}
+
+fn flags_at(bs: &[u8], i: usize) -> Flags
+    ensures { λ r. ⌜ r ≡ flagsOf (getD (now (bs .entry)) i 0) ⌝ }
+{
+    Flags::of(octets::byte(bs, i) as u64)
+}
+
+fn same_flags(a: Flags, b: Flags) -> bool
+    ensures { λ r. ⌜ (r ≡ true → a ≡ b) ⌝ }
+{
+    if a.n != b.n {
+        return false;
+    }
+    if a.z != b.z {
+        return false;
+    }
+    if a.c != b.c {
+        return false;
+    }
+    a.v == b.v
 }
 
 // Whether the image of a state and words is these bytes.

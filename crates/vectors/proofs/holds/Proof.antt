@@ -8,19 +8,25 @@ run-agrees-requires : tie.Need-run-agrees-requires
 run-agrees-requires c κs = search needs
 
 returns : tie.Need-returns
-returns c = λ h. record { run = λ _. c .run-agrees .ensures h; image = λ k. absurd (omega arith); walk = λ k. absurd (omega arith) }
+returns c = λ h. record { run = λ _. c .run-agrees .ensures h; image = λ k. absurd (omega arith); walk = λ k. absurd (omega arith); step = λ k. absurd (omega arith) }
 
 image-agrees-requires : tie.Need-image-agrees-requires
 image-agrees-requires c κs = search needs
 
 returns-2 : tie.Need-returns-2
-returns-2 c = λ h. record { run = λ k. absurd (omega arith); image = λ _. c .image-agrees .ensures h; walk = λ k. absurd (omega arith) }
+returns-2 c = λ h. record { run = λ k. absurd (omega arith); image = λ _. c .image-agrees .ensures h; walk = λ k. absurd (omega arith); step = λ k. absurd (omega arith) }
 
 walk-agrees-requires : tie.Need-walk-agrees-requires
 walk-agrees-requires c κs = search needs
 
 returns-3 : tie.Need-returns-3
-returns-3 c = λ h. record { run = λ k. absurd (omega arith); image = λ k. absurd (omega arith); walk = λ _. c .walk-agrees .ensures h }
+returns-3 c = λ h. record { run = λ k. absurd (omega arith); image = λ k. absurd (omega arith); walk = λ _. c .walk-agrees .ensures h; step = λ k. absurd (omega arith) }
+
+step-agrees-requires : tie.Need-step-agrees-requires
+step-agrees-requires c κs = search needs
+
+returns-4 : tie.Need-returns-4
+returns-4 c = λ h. record { run = λ k. absurd (omega arith); image = λ k. absurd (omega arith); walk = λ k. absurd (omega arith); step = λ _. c .step-agrees .ensures h }
 
 pub holds-spec : {M : Type 1} → statement M
 holds-spec =
@@ -31,4 +37,6 @@ holds-spec =
     image-agrees-requires
     returns-2
     walk-agrees-requires
-    returns-3)
+    returns-3
+    step-agrees-requires
+    returns-4)

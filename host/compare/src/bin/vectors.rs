@@ -2,13 +2,15 @@
 //! kind (1 byte) and the length of the rest (4 bytes). `vectors [seed] > file`; counts go to standard error.
 #![forbid(unsafe_code)]
 
+use compare::actions::{word_of, word_with_other};
 use compare::counter::Reading;
 use compare::damage::{self, Age, AGES};
-use compare::instructions::{short_word, RDFFR, RDFFRS_PG, RDFFR_PG, SETFFR, WRFFR};
+use compare::instructions::{logic_word, short_word, LOGIC, RDFFR, RDFFRS_PG, RDFFR_PG, SETFFR, WRFFR};
+use compare::kernels::{self, Field, KERNELS};
 use compare::random::Random;
 use compare::routes::{route, Bounds};
 use compare::{instructions, states};
-use model::State;
+use model::{Flags, Kernel, Shared, State};
 use std::collections::BTreeMap;
 use std::io::Write;
 
@@ -20,14 +22,16 @@ const LARGEST: usize = 880_000;
 const RUN: u8 = 1;
 const IMAGE: u8 = 2;
 const WALK: u8 = 3;
+const STEP: u8 = 4;
 
 /// Searches are runs too, drawn apart from the others, and so are runs that come to a word that is none of ours, those of
-/// FFR's words, and those that go by the counts of what was written.
+/// FFR's words, and those that go by the counts of what was written. Steps of two kernels are drawn apart from all of them.
 const SEARCH: u64 = 4;
 const SIZES: [u8; 4] = [0, 1, 2, 3];
 const REFUSED: u64 = 5;
 const FFR: u64 = 6;
 const COUNTS: u64 = 7;
+const TURNS: u64 = 8;
 
 /// Counts of FFR's section, with as many times its bytes.
 const FFRS: [u32; 4] = [0, 2, 3, 4];
@@ -52,6 +56,12 @@ const PLACES: [(&str, u8, bool); 4] = [
 /// The shorter lengths more often, for the size of the file.
 const LENGTHS: [u64; 20] =
     [128, 128, 128, 128, 128, 128, 128, 128, 128, 256, 256, 256, 256, 256, 256, 512, 512, 1024, 1024, 2048];
+
+/// The lengths of a kernel's steps, in turn.
+const STEP_LENGTHS: [u64; 9] = [128, 256, 128, 512, 128, 1024, 128, 2048, 128];
+
+/// The refusals that come before 15.
+const BEFORE: [u8; 4] = [1, 13, 2, 3];
 
 fn main() {
     let seed = std::env::args().nth(1).map_or(1, |seed| seed.parse().expect("the seed is a number"));
@@ -86,6 +96,9 @@ fn main() {
     }
     for (number, vl) in states::LENGTHS.into_iter().enumerate() {
         counts(&mut file, &mut Random::new(seed, COUNTS, number as u64), vl);
+    }
+    for (number, kernel) in KERNELS.into_iter().enumerate() {
+        steps(&mut file, &mut Random::new(seed, TURNS, number as u64), kernel);
     }
     file.say_and_check();
     std::io::stdout().write_all(&file.bytes).expect("standard output takes the file");
@@ -149,6 +162,15 @@ fn expected() -> Vec<String> {
     }
     list.extend([0, 2, 3, 5].map(count_at_ffr));
     list.extend([0, 2, 3, 10, 11, 12].map(|reply| reply_of(WALK, reply)));
+    for kernel in KERNELS {
+        list.extend(BEFORE.map(|reply| stepped(kernel, reply)));
+        list.extend(kernels::own_forms(kernel).into_iter().map(|form| form_stepped(form, kernel, 0)));
+        list.extend((0..instructions::FORMS.len() as u8).map(|form| form_stepped(form, kernel, 15)));
+        list.extend(states::LENGTHS.map(|vl| stepped_at(vl, kernel, 0)));
+        list.extend(states::LENGTHS.map(|vl| stepped_at(vl, kernel, 15)));
+    }
+    let names = (0..SETFFR).flat_map(kernels::fields).map(|field| field.name);
+    list.extend(names.map(names_other));
     list
 }
 
@@ -199,6 +221,24 @@ fn count_at_ffr(count: u32) -> String {
 
 fn reply_of(kind: u8, reply: u8) -> String {
     format!("kind {kind} with reply {reply}")
+}
+
+/// The reply to a kernel's word.
+fn stepped(kernel: Kernel, reply: u8) -> String {
+    format!("steps of the {kernel:?} kernel with reply {reply}")
+}
+
+fn stepped_at(vl: u64, kernel: Kernel, reply: u8) -> String {
+    format!("{} at {vl}", stepped(kernel, reply))
+}
+
+fn form_stepped(form: u8, kernel: Kernel, reply: u8) -> String {
+    format!("{}: {}", stepped(kernel, reply), instructions::FORMS[usize::from(form)])
+}
+
+/// The field that names a register of the other kernel.
+fn names_other(field: &str) -> String {
+    format!("steps with a register of the other as {field}")
 }
 
 /// Bytes after their length.
@@ -395,12 +435,16 @@ fn write_of_no_run(file: &mut File, random: &mut Random, vl: u64, (_, level, acc
     let mut state = states::legal(random, vl);
     (state.level, state.access) = (level, access);
     let pn = random.below(16) as u8;
-    while states::is_run(&state.p[usize::from(pn)]) {
-        states::put(&mut state, pn, states::near_run(random, vl));
-    }
+    put_no_run(random, &mut state, pn);
     let words = [short_word(SETFFR, &[]), short_word(WRFFR, &[pn]), short_word(RDFFR, &[pn])];
     let first = if level > 0 && access { 0 } else { 1 };
     store_run(file, state, &words[first..]);
+}
+
+fn put_no_run(random: &mut Random, state: &mut State, pn: u8) {
+    while states::is_run(&state.p[usize::from(pn)]) {
+        states::put(state, pn, states::near_run(random, state.vl));
+    }
 }
 
 /// The reply, the image, and the image that it is written back as; none for one that is refused.
@@ -462,4 +506,88 @@ fn walk(file: &mut File, random: &mut Random, number: u64) {
     rest.extend(list.iter().flat_map(|place| place.to_le_bytes()));
     file.record(WALK, &rest);
     file.see(reply_of(WALK, walked.reply));
+}
+
+/// A kernel's steps: each form with registers of its own, and with one of the other; FFR's words; and words with a register of the
+/// other that are refused for another reason first.
+fn steps(file: &mut File, random: &mut Random, kernel: Kernel) {
+    let mut lengths = STEP_LENGTHS.into_iter().cycle();
+    let mut ready = |random: &mut Random| kernels::ready(random, lengths.next().expect("it is a cycle"));
+    for form in kernels::own_forms(kernel) {
+        let word = word_of(&kernels::own_row(random, kernel, form));
+        let mut shared = ready(random);
+        instructions::tie(random, &mut shared.state, word);
+        store_step(file, &shared, kernel, word, 0);
+    }
+    for form in 0..SETFFR {
+        let field = field_of_other(kernel, form);
+        file.see(names_other(field.name));
+        let word = word_with_other(random, kernel, &field).expect("the field can");
+        store_step(file, &ready(random), kernel, word, 15);
+    }
+    for form in SETFFR..=RDFFRS_PG {
+        let row = kernels::own_row(random, kernel, form);
+        let mut shared = ready(random);
+        if form == WRFFR {
+            put_no_run(random, &mut shared.state, row[1]); // which is else refused with 14
+        }
+        store_step(file, &shared, kernel, word_of(&row), 15);
+    }
+    for reply in BEFORE {
+        let mut shared = ready(random);
+        let word = refused_before(random, kernel, &mut shared.state, reply);
+        store_step(file, &shared, kernel, word, reply);
+    }
+}
+
+/// Of the fields of a form that can name a register of the other, the kernels mostly take different ones.
+fn field_of_other(kernel: Kernel, form: u8) -> Field {
+    let mut fields = kernels::fields(form);
+    fields.retain(|field| !field.others(kernel).is_empty());
+    fields[(usize::from(form) + usize::from(second(kernel))) % fields.len()]
+}
+
+/// A word with a register of the other that has another refusal before, by itself or by what is changed of the state.
+fn refused_before(random: &mut Random, kernel: Kernel, state: &mut State, reply: u8) -> u32 {
+    let form = random.below(u64::from(SETFFR)) as u8;
+    let word = word_with_other(random, kernel, &field_of_other(kernel, form)).expect("the field can");
+    match reply {
+        1 => return word ^ (1 + random.below(255) as u32) << 24,
+        13 => return sel_of_other(random, kernel),
+        2 => state.level = instructions::level_of(word) - 1,
+        _ => state.access = false,
+    }
+    word
+}
+
+/// SEL with S.
+fn sel_of_other(random: &mut Random, kernel: Kernel) -> u32 {
+    let others = Vec::from_iter(kernels::own_p(kernels::other(kernel)));
+    let [pm, pg, pn, pd] = [(); 4].map(|()| random.pick(&others));
+    logic_word(&[LOGIC, 0, 1, pm, pg, 1, pn, 1, pd])
+}
+
+fn store_step(file: &mut File, shared: &Shared, kernel: Kernel, word: u32, reply: u8) {
+    let mut after = shared.clone();
+    assert_eq!(model::shared_step(&mut after, kernel, word), reply, "{word:08x} by the {kernel:?} kernel");
+    let mut rest = Vec::new();
+    push_image(&mut rest, &shared.state, &[word]);
+    rest.extend([second(kernel), nzcv(&shared.second), reply, nzcv(&after.second)]);
+    push_image(&mut rest, &after.state, &[]);
+    file.record(STEP, &rest);
+    file.see(stepped(kernel, reply));
+    file.see(stepped_at(shared.state.vl, kernel, reply));
+    if let Some([form, ..]) = model::decode(word) {
+        file.see(form_stepped(form, kernel, reply));
+    }
+}
+
+/// 1 for the second kernel, 0 for the first.
+fn second(kernel: Kernel) -> u8 {
+    u8::from(kernel == Kernel::Second)
+}
+
+/// N is the highest of the four bits.
+fn nzcv(flags: &Flags) -> u8 {
+    [flags.n, flags.z, flags.c, flags.v].into_iter().fold(0, |number, flag| number << 1 | u8::from(flag))
 }
