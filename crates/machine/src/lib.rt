@@ -119,8 +119,8 @@ fn attempt(state: State, i: Instruction) -> Stepped
 fn values(state: State, r: Registers) -> Values
     ensures { λ v. ⌜ v ≡ valuesOf state r ⌝ }
 {
-    let rn = state.read_x(r.rn);
-    let rm = state.read_x(r.rm);
+    let rn = registers::parts::x_at(&state.x, r.rn);
+    let rm = registers::parts::x_at(&state.x, r.rm);
     let pg = state.read_p(r.pg);
     let pn = state.read_p(r.pn);
     let pm = state.read_p(r.pm);

@@ -73,8 +73,8 @@ pub fn refusal(state: State, size: u32, n: u32, m: u32, d: u32, k: u32, places: 
     if !state.access {
         return Reply::AccessOff;
     }
-    let start = state.read_x(n as u64);
-    let limit = state.read_x(m as u64);
+    let start = registers::parts::x_at(&state.x, n as u64);
+    let limit = registers::parts::x_at(&state.x, m as u64);
     if limit <= start {
         return Reply::Done;
     }

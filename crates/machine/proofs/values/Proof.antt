@@ -4,11 +4,11 @@ use Rattle.machine.proofs.Executing.{values-are}
 use Rattle.machine.proofs.values.Statement.{statement}
 use Rattle.machine.proofs.values.Tie as tie
 
-read-x-requires : tie.Need-read-x-requires
-read-x-requires c κs = search needs
+x-at-requires : tie.Need-x-at-requires
+x-at-requires c κs = search needs
 
-read-x-requires-2 : tie.Need-read-x-requires-2
-read-x-requires-2 c κs = search needs
+x-at-requires-2 : tie.Need-x-at-requires-2
+x-at-requires-2 c κs = search needs
 
 read-p-requires : tie.Need-read-p-requires
 read-p-requires c κs = search needs
@@ -29,8 +29,8 @@ pub values-spec : {M : Type 1} → statement M
 values-spec =
     tie.close
     (tie.spec
-    read-x-requires
-    read-x-requires-2
+    x-at-requires
+    x-at-requires-2
     read-p-requires
     read-p-requires-2
     read-p-requires-3

@@ -27,11 +27,11 @@ returns-4 : tie.Need-returns-4
 unfolding refusalOf
 returns-4 c = search (refusing, needs) depth 12
 
-read-x-requires : tie.Need-read-x-requires
-read-x-requires c κs = search needs
+x-at-requires : tie.Need-x-at-requires
+x-at-requires c κs = search needs
 
-read-x-requires-2 : tie.Need-read-x-requires-2
-read-x-requires-2 c κs = search needs
+x-at-requires-2 : tie.Need-x-at-requires-2
+x-at-requires-2 c κs = search needs
 
 returns-5 : tie.Need-returns-5
 unfolding refusalOf
@@ -58,8 +58,8 @@ refusal-spec =
     returns-2
     returns-3
     returns-4
-    read-x-requires
-    read-x-requires-2
+    x-at-requires
+    x-at-requires-2
     returns-5
     sub-if6
     returns-6
