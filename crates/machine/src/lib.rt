@@ -119,6 +119,7 @@ fn attempt(state: State, i: Instruction) -> Stepped
 fn values(state: State, r: Registers) -> Values
     ensures { λ v. ⌜ v ≡ valuesOf state r ⌝ }
 {
+    // X is read where it stands: `read_x` takes the state by value, and it would be copied.
     let rn = registers::parts::x_at(&state.x, r.rn);
     let rm = registers::parts::x_at(&state.x, r.rm);
     let pg = state.read_p(r.pg);

@@ -52,7 +52,7 @@ impl Kernel {
         Kernel::First
     }
 
-    // Its own X registers and 31. No register has a number past 31, and is anyone's.
+    // Its own X registers, 31, and what stands for no register: a number past them all.
     fn may_name_x(self, r: u64) -> bool
         ensures { λ b. ⌜ b ≡ mayNameX self r ⌝ }
     {
@@ -65,7 +65,7 @@ impl Kernel {
         }
     }
 
-    // Its own P registers, but not FFR, whose number is 16. No register has a number past that.
+    // Its own P registers, and what stands for no register: a number past FFR's, which is 16.
     fn may_name_p(self, r: u64) -> bool
         ensures { λ b. ⌜ b ≡ mayNameP self r ⌝ }
     {

@@ -73,6 +73,7 @@ pub fn refusal(state: State, size: u32, n: u32, m: u32, d: u32, k: u32, places: 
     if !state.access {
         return Reply::AccessOff;
     }
+    // X is read where it stands: `read_x` takes the state by value, and it would be copied.
     let start = registers::parts::x_at(&state.x, n as u64);
     let limit = registers::parts::x_at(&state.x, m as u64);
     if limit <= start {
