@@ -1,0 +1,326 @@
+//! From a text to its word.
+
+use crate::disassemble::general;
+use crate::syntax::{table, Field, Operand, Syntax, SIZES};
+use crate::words::listed;
+use plokamyr::{encode, Row};
+use std::fmt;
+
+/// Why a text is no instruction: what stands at a byte of it, and what would do there.
+#[derive(Clone, Debug, PartialEq, Eq)]
+pub struct Fault {
+    pub at: usize,
+    pub found: String,
+    /// Any of these.
+    pub expected: Vec<String>,
+}
+
+impl fmt::Display for Fault {
+    fn fmt(&self, out: &mut fmt::Formatter) -> fmt::Result {
+        write!(out, "expected {}, found {}", listed(&self.expected), self.found)
+    }
+}
+
+/// The word of one instruction. Letters may be large, and blanks stand between any two parts.
+pub fn assemble(text: &str) -> Result<u32, Fault> {
+    let tokens = tokens(text);
+    let mnemonic = tokens[0].text.to_ascii_lowercase();
+    if mnemonic == DIRECTIVE {
+        return number(&tokens);
+    }
+    let ways: Vec<&Syntax> = table().iter().filter(|syntax| syntax.mnemonic == mnemonic).collect();
+    if ways.is_empty() {
+        return Err(tokens[0].fault(&suggestion(&mnemonic)));
+    }
+    let mut furthest: Option<Fault> = None;
+    for syntax in ways {
+        match read(syntax, &tokens) {
+            Ok(word) => return Ok(word),
+            Err(fault) => furthest = Some(further(furthest, fault)),
+        }
+    }
+    Err(furthest.unwrap_or_else(|| tokens[0].fault("an instruction")))
+}
+
+/// A word as a number, for one that is no instruction of ours.
+const DIRECTIVE: &str = ".inst";
+
+/// Whether a text begins with a name that an instruction may begin with.
+pub fn begins_instruction(text: &str) -> bool {
+    let first = tokens(text)[0].text.to_ascii_lowercase();
+    first == DIRECTIVE || table().iter().any(|syntax| syntax.mnemonic == first)
+}
+
+/// A run of letters, digits, `_` and `.`, or another character that is no blank. The last one is empty, at the text's end.
+#[derive(Clone, Copy, Debug)]
+struct Token<'a> {
+    at: usize,
+    text: &'a str,
+}
+
+impl Token<'_> {
+    fn fault(&self, expected: &str) -> Fault {
+        self.fault_at(0, expected)
+    }
+
+    /// A fault `skip` bytes into the token.
+    fn fault_at(&self, skip: usize, expected: &str) -> Fault {
+        let found = match self.text.get(skip..).unwrap_or("") {
+            "" => "the end".to_string(),
+            rest => format!("'{rest}'"),
+        };
+        Fault { at: self.at + skip, found, expected: vec![expected.to_string()] }
+    }
+}
+
+fn tokens(text: &str) -> Vec<Token<'_>> {
+    let part = |c: char| c.is_ascii_alphanumeric() || c == '_' || c == '.';
+    let mut all = Vec::new();
+    let mut at = 0;
+    while let Some(c) = text[at..].chars().next() {
+        let rest = &text[at..];
+        let length = match part(c) {
+            true => rest.find(|c| !part(c)).unwrap_or(rest.len()),
+            false => c.len_utf8(),
+        };
+        if !c.is_whitespace() {
+            all.push(Token { at, text: &rest[..length] });
+        }
+        at += length;
+    }
+    all.push(Token { at: text.trim_end().len(), text: "" });
+    all
+}
+
+/// Of two faults the one that stands further on; of two at one place what either expects.
+fn further(one: Option<Fault>, other: Fault) -> Fault {
+    match one {
+        Some(one) if one.at > other.at => one,
+        Some(mut one) if one.at == other.at => {
+            one.expected.extend(other.expected);
+            one.expected.dedup();
+            one
+        }
+        _ => other,
+    }
+}
+
+fn number(tokens: &[Token]) -> Result<u32, Fault> {
+    let text = tokens[1].text.to_ascii_lowercase();
+    let value = match text.strip_prefix("0x") {
+        Some(digits) if !digits.starts_with('+') => u32::from_str_radix(digits, 16).ok(),
+        _ => text.parse().ok().filter(|_| !text.starts_with('+')),
+    };
+    let word = value.ok_or_else(|| tokens[1].fault("a word, as 0x25a21c20"))?;
+    end(&tokens[2])?;
+    Ok(word)
+}
+
+fn end(token: &Token) -> Result<(), Fault> {
+    match token.text {
+        "" => Ok(()),
+        _ => Err(token.fault("the end of the instruction")),
+    }
+}
+
+/// Reads the operands of one way to write an instruction.
+fn read(syntax: &Syntax, tokens: &[Token]) -> Result<u32, Fault> {
+    let mut reader = Reader { syntax, tokens, next: 1, fields: [None; 8] };
+    for &(name, value) in &syntax.fixed {
+        reader.fields[reader.place(name)] = Some(value);
+    }
+    for (place, operand) in syntax.operands.iter().enumerate() {
+        if place > 0 {
+            reader.mark(",")?;
+        }
+        reader.operand(operand)?;
+    }
+    end(reader.token())?;
+    for &(name, source) in syntax.equal {
+        reader.fields[reader.place(name)] = reader.fields[reader.place(source)];
+    }
+    reader.word()
+}
+
+struct Reader<'a> {
+    syntax: &'a Syntax,
+    tokens: &'a [Token<'a>],
+    next: usize,
+    /// What is known of the form's fields so far.
+    fields: [Option<u8>; 8],
+}
+
+impl<'a> Reader<'a> {
+    fn token(&self) -> &'a Token<'a> {
+        &self.tokens[self.next]
+    }
+
+    fn place(&self, name: Field) -> usize {
+        let names = self.syntax.form.field_names();
+        names.iter().position(|known| *known == name).expect("the table names fields that the form has")
+    }
+
+    fn word(&self) -> Result<u32, Fault> {
+        let fields = self.fields.map(|field| field.unwrap_or(0));
+        let row = Row { form: self.syntax.form, fields };
+        encode(row).map_err(|refusal| self.tokens[0].fault(&format!("another instruction: {refusal}")))
+    }
+
+    fn operand(&mut self, operand: &Operand) -> Result<(), Fault> {
+        match *operand {
+            Operand::X(name) => self.general("x", name),
+            Operand::W(name) => self.general("w", name),
+            Operand::P(name) => self.plain(name),
+            Operand::Bytes(name) => self.bytes(name),
+            Operand::Sized(name) => self.sized(name, "p", 0),
+            Operand::Counter(name, first) => self.sized(name, "pn", first),
+            Operand::Zeroing(name) => self.governing(name, "z"),
+            Operand::Merging(name) => self.governing(name, "m"),
+            Operand::Pair(name) => self.pair(name),
+            Operand::Group(name) => self.group(name),
+        }
+    }
+
+    fn mark(&mut self, mark: &str) -> Result<(), Fault> {
+        if !self.token().text.eq_ignore_ascii_case(mark) {
+            return Err(self.token().fault(&format!("'{mark}'")));
+        }
+        self.next += 1;
+        Ok(())
+    }
+
+    /// Sets a field, `skip` bytes into the token. One that is written twice is the same both times, as `shown` names it.
+    fn set(&mut self, name: Field, value: u8, skip: usize, shown: impl Fn(u8) -> String) -> Result<(), Fault> {
+        let place = self.place(name);
+        match self.fields[place] {
+            Some(known) if known != value => Err(self.token().fault_at(skip, &format!("{}, as before", shown(known)))),
+            _ => {
+                self.fields[place] = Some(value);
+                Ok(())
+            }
+        }
+    }
+
+    /// The number of a register and how many bytes name it, if it is one from `first` to `last`.
+    fn register(&self, prefix: &str, first: u8, last: u8) -> Option<(u8, usize)> {
+        let text = self.token().text.to_ascii_lowercase();
+        let digits: String = text.strip_prefix(prefix)?.chars().take_while(char::is_ascii_digit).collect();
+        let number = digits.parse().ok().filter(|number: &u8| number.to_string() == digits)?;
+        (first..=last).contains(&number).then_some((number, prefix.len() + digits.len()))
+    }
+
+    fn general(&mut self, prefix: &str, name: Field) -> Result<(), Fault> {
+        let zero = self.token().text.eq_ignore_ascii_case(&format!("{prefix}zr"));
+        let found = if zero { Some((31, 3)) } else { self.register(prefix, 0, 30) };
+        match found {
+            Some((number, length)) if length == self.token().text.len() => {
+                self.set(name, number, 0, |known| general(prefix, known))?
+            }
+            _ => return Err(self.token().fault(&format!("{prefix}0 to {prefix}30 or {prefix}zr"))),
+        }
+        self.next += 1;
+        Ok(())
+    }
+
+    /// A predicate register's number, what follows it in the token, and where that begins.
+    fn predicate(&self, prefix: &str, first: u8, expected: &str) -> Result<(u8, &'a str, usize), Fault> {
+        let (number, length) = self.register(prefix, first, 15).ok_or_else(|| self.token().fault(expected))?;
+        Ok((number, &self.token().text[length..], length))
+    }
+
+    fn plain(&mut self, name: Field) -> Result<(), Fault> {
+        let (number, suffix, skip) = self.predicate("p", 0, "p0 to p15")?;
+        if !suffix.is_empty() {
+            return Err(self.token().fault_at(skip, "no size here"));
+        }
+        self.set(name, number, 0, |known| format!("p{known}"))?;
+        self.next += 1;
+        Ok(())
+    }
+
+    fn bytes(&mut self, name: Field) -> Result<(), Fault> {
+        let (number, suffix, skip) = self.predicate("p", 0, "p0.b to p15.b")?;
+        if !suffix.eq_ignore_ascii_case(".b") {
+            return Err(self.token().fault_at(skip, "'.b'"));
+        }
+        self.set(name, number, 0, |known| format!("p{known}.b"))?;
+        self.next += 1;
+        Ok(())
+    }
+
+    fn sized(&mut self, name: Field, prefix: &str, first: u8) -> Result<(), Fault> {
+        let number = self.with_size(prefix, first)?;
+        self.set(name, number - first, 0, |known| format!("{prefix}{}", first + known))?;
+        self.next += 1;
+        Ok(())
+    }
+
+    /// The number of a predicate register that stands with a size, which is that of the instruction.
+    fn with_size(&mut self, prefix: &str, first: u8) -> Result<u8, Fault> {
+        let expected = format!("{prefix}{first} to {prefix}15 with a size");
+        let (number, suffix, skip) = self.predicate(prefix, first, &expected)?;
+        let size = SIZES.iter().position(|letter| suffix.eq_ignore_ascii_case(&format!(".{letter}")));
+        let size = size.ok_or_else(|| self.token().fault_at(skip, "'.b', '.h', '.s' or '.d'"))?;
+        self.set("size", size as u8, skip, |known| format!("'.{}'", SIZES[usize::from(known)]))?;
+        Ok(number)
+    }
+
+    fn governing(&mut self, name: Field, letter: &str) -> Result<(), Fault> {
+        self.plain(name).map_err(|fault| match fault.at == self.token().at {
+            true => self.token().fault(&format!("p0/{letter} to p15/{letter}")),
+            false => fault,
+        })?;
+        let slash = self.token();
+        let expected = |_| slash.fault(&format!("'/{letter}'"));
+        self.mark("/").and_then(|()| self.mark(letter)).map_err(expected)
+    }
+
+    fn pair(&mut self, name: Field) -> Result<(), Fault> {
+        self.mark("{")?;
+        let first = self.with_size("p", 0)?;
+        if first % 2 == 1 {
+            return Err(self.token().fault("an even register, the first of a pair"));
+        }
+        self.set(name, first / 2, 0, |known| format!("p{}", 2 * known))?;
+        self.next += 1;
+        self.mark(",")?;
+        if self.with_size("p", 0)? != first + 1 {
+            return Err(self.token().fault(&format!("p{}, the second of the pair", first + 1)));
+        }
+        self.next += 1;
+        self.mark("}")
+    }
+
+    fn group(&mut self, name: Field) -> Result<(), Fault> {
+        let group = ["vlx2", "vlx4"].iter().position(|group| self.token().text.eq_ignore_ascii_case(group));
+        let group = group.ok_or_else(|| self.token().fault("vlx2 or vlx4"))?;
+        self.set(name, group as u8, 0, |known| format!("vlx{}", 2 << known))?;
+        self.next += 1;
+        Ok(())
+    }
+}
+
+/// What to say for a name that no instruction has: one that is written nearly so, if there is one.
+fn suggestion(name: &str) -> String {
+    let near = table().iter().map(|syntax| syntax.mnemonic).min_by_key(|known| distance(name, known));
+    match near.filter(|near| distance(name, near) <= 2 && !name.is_empty()) {
+        Some(near) => format!("an instruction ({near}?)"),
+        None => "an instruction ('plokamyr asm --help' names them)".to_string(),
+    }
+}
+
+/// How many letters have to be put in, left out or changed to get from one name to the other.
+fn distance(one: &str, other: &str) -> usize {
+    let other: Vec<char> = other.chars().collect();
+    let mut row: Vec<usize> = (0..=other.len()).collect();
+    for (before, c) in one.chars().take(20).enumerate() {
+        let mut diagonal = before;
+        row[0] = before + 1;
+        for (place, d) in other.iter().enumerate() {
+            let changed = diagonal + usize::from(c != *d);
+            diagonal = row[place + 1];
+            row[place + 1] = changed.min(row[place] + 1).min(diagonal + 1);
+        }
+    }
+    row[other.len()]
+}

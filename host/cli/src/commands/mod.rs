@@ -1,0 +1,38 @@
+//! A module for each command: its arguments, and what it prints.
+
+pub mod asm;
+pub mod diff;
+pub mod dis;
+pub mod explain;
+pub mod new;
+pub mod run;
+pub mod show;
+pub mod walk;
+
+use crate::args::Args;
+use crate::failure::Failure;
+use crate::lanes::size_of;
+use crate::words::natural;
+
+/// The one operand of a command, called `what`.
+fn only<'a>(args: &'a Args, what: &str) -> Result<&'a str, Failure> {
+    match args.operands.as_slice() {
+        [operand] => Ok(operand),
+        [] => Err(format!("{what} is missing (try --help)").into()),
+        [_, second, ..] => Err(format!("one {what} at a time: '{second}' is too much (try --help)").into()),
+    }
+}
+
+/// The size that an option gives, bytes without it.
+fn size(args: &Args) -> Result<u32, Failure> {
+    let letter = args.value("size").unwrap_or("b");
+    size_of(letter).ok_or_else(|| format!("--size is '{letter}': b, h, s or d would do").into())
+}
+
+/// The number that an option gives, called `what` in messages.
+fn number(args: &Args, key: &str, what: &str) -> Result<Option<u64>, Failure> {
+    let read = |text: &str| {
+        natural(text).ok_or_else(|| format!("{what} is '{text}': a number up to {} would do", u64::MAX).into())
+    };
+    args.value(key).map(read).transpose()
+}

@@ -1,0 +1,148 @@
+use crate::args::Args;
+use crate::commands::asm::{assembled, source};
+use crate::failure::{why, Failure, Outcome, DONE};
+use crate::image::named;
+use crate::lanes::{elements, predicate, size_of};
+use crate::style::Style;
+use crate::words::{counted, grouped, natural, numbers, wrapping};
+use plokamyr::{write, Flags, Predicate, Reply, State, IMAGE_MAX, WORDS_MAX};
+use std::fs;
+use std::ops::RangeInclusive;
+
+pub fn command(args: &Args, _: Style) -> Result<Outcome, Failure> {
+    let path = args.value("o").ok_or("-o FILE is missing: where to write the image")?;
+    let state = state(args)?;
+    let words = match args.operands.as_slice() {
+        [] => Vec::new(),
+        _ => kernel(super::only(args, "KERNEL.s")?)?,
+    };
+    let mut image = vec![0; IMAGE_MAX];
+    let written = write(&state, &words, &mut image);
+    match written.reply {
+        Reply::Done => image.truncate(written.length),
+        refusal => return Err(format!("the image cannot be written: {refusal}").into()),
+    }
+    if path == "-" {
+        return Ok(Outcome::new(image, DONE));
+    }
+    fs::write(path, &image).map_err(|error| format!("{} cannot be written: {}", named(path), why(&error)))?;
+    Ok(Outcome::new("", DONE))
+}
+
+fn kernel(path: &str) -> Result<Vec<u32>, Failure> {
+    let words = assembled(&named(path), &source(path)?)?;
+    if words.len() > WORDS_MAX {
+        let most = grouped(WORDS_MAX as u64);
+        return Err(
+            format!("{} has {}: an image holds {most}", named(path), counted(words.len() as u64, "word")).into()
+        );
+    }
+    Ok(words)
+}
+
+fn state(args: &Args) -> Result<State, Failure> {
+    let vl = args.value("vl").ok_or_else(|| format!("--vl BITS is missing: {} would do", lengths()))?;
+    let vl = allowed("--vl", vl, &lengths(), |vl| State::new(vl, 0))?;
+    let level =
+        allowed("--level", args.value("level").unwrap_or("3"), &levels(), |level| State::new(128, byte(level)))?;
+    let mut state = State::new(vl, byte(level));
+    state.access = !args.has("no-access");
+    for text in args.values("x") {
+        let (number, value) = general(text)?;
+        state.x[number] = value;
+    }
+    for text in args.values("p") {
+        let (number, value) = lanes_of(text, vl)?;
+        state.set_p(number, value);
+    }
+    if let Some(text) = args.value("ffr") {
+        state.ffr = true_lanes("--ffr", text, vl, 0)?;
+    }
+    if let Some(text) = args.value("nzcv") {
+        state.flags = flags(text)?;
+    }
+    Ok(state)
+}
+
+/// A level; one past a byte is as little allowed as the highest.
+fn byte(level: u64) -> u8 {
+    level.min(255) as u8
+}
+
+/// Whether the library takes a state.
+fn is_legal(state: State) -> bool {
+    let mut state = state;
+    state.run(&[]).reply == Reply::Done
+}
+
+/// The vector lengths that the library takes.
+fn lengths() -> String {
+    numbers(&(0..=4096).filter(|vl| is_legal(State::new(u64::from(*vl), 0))).collect::<Vec<_>>())
+}
+
+/// The levels that it takes.
+fn levels() -> String {
+    numbers(&(0..=255).filter(|level| is_legal(State::new(128, *level as u8))).collect::<Vec<_>>())
+}
+
+/// A setting that the library allows.
+fn allowed(name: &str, text: &str, would_do: &str, state: impl Fn(u64) -> State) -> Result<u64, Failure> {
+    let value = natural(text).filter(|value| is_legal(state(*value)));
+    value.ok_or_else(|| format!("{name} is '{text}': {would_do} would do").into())
+}
+
+/// `1=64`.
+fn general(text: &str) -> Result<(usize, u64), Failure> {
+    let read = || {
+        let (number, value) = text.split_once('=')?;
+        Some((register(number, 31)?, wrapping(value)?))
+    };
+    read().ok_or_else(|| {
+        format!("-x is '{text}': N=VALUE would do, with N 0 to 30 and a VALUE of 64 bits, as 1=64").into()
+    })
+}
+
+fn register(text: &str, numbers: usize) -> Option<usize> {
+    natural(text).filter(|number| *number < numbers as u64).map(|number| number as usize)
+}
+
+/// `0.s=0-4,7`.
+fn lanes_of(text: &str, vl: u64) -> Result<(usize, Predicate), Failure> {
+    let read = || {
+        let (name, lanes) = text.split_once('=')?;
+        let (number, letter) = name.split_once('.')?;
+        Some((register(number, 16)?, size_of(letter)?, lanes))
+    };
+    let wrong = || format!("-p is '{text}': N.SIZE=LANES would do, with N 0 to 15 and SIZE b, h, s or d, as 0.s=0-4,7");
+    let (number, size, lanes) = read().ok_or_else(wrong)?;
+    Ok((number, true_lanes("-p", lanes, vl, size)?))
+}
+
+fn true_lanes(name: &str, text: &str, vl: u64, size: u32) -> Result<Predicate, Failure> {
+    let last = elements(vl, size) as u64 - 1;
+    let ranges = match text {
+        "all" => Some(vec![0..=last]),
+        "none" => Some(vec![]),
+        _ => text.split(',').map(range).collect(),
+    };
+    let found = ranges.and_then(|ranges| predicate(vl, size, &ranges));
+    found.ok_or_else(|| {
+        format!("the lanes of {name} are '{text}': lanes 0 to {last} would do, as 0-4,7, all or none").into()
+    })
+}
+
+/// `7` or `0-4`.
+fn range(text: &str) -> Option<RangeInclusive<u64>> {
+    let (first, last) = text.split_once('-').unwrap_or((text, text));
+    let (first, last) = (natural(first)?, natural(last)?);
+    (first <= last).then_some(first..=last)
+}
+
+/// `1010`.
+fn flags(text: &str) -> Result<Flags, Failure> {
+    let bits: Vec<bool> = text.chars().map(|bit| bit == '1').collect();
+    match bits.as_slice() {
+        &[n, z, c, v] if text.chars().all(|bit| bit == '0' || bit == '1') => Ok(Flags { n, z, c, v }),
+        _ => Err(format!("--nzcv is '{text}': four digits 0 or 1 would do, as 1010").into()),
+    }
+}

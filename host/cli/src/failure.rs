@@ -1,0 +1,50 @@
+//! How a command ends. The statuses are those of `./run`.
+
+use std::io;
+
+/// All is done, and two things are alike.
+pub const DONE: u8 = 0;
+/// A word or a walk was refused; two images differ.
+pub const REFUSED: u8 = 1;
+/// An image was refused.
+pub const IMAGE_REFUSED: u8 = 2;
+/// Anything else, with a line on standard error.
+pub const FAILED: u8 = 3;
+
+/// What a command prints, and its exit status.
+#[derive(Debug, PartialEq, Eq)]
+pub struct Outcome {
+    pub text: Vec<u8>,
+    pub status: u8,
+}
+
+impl Outcome {
+    pub fn new(text: impl Into<Vec<u8>>, status: u8) -> Outcome {
+        Outcome { text: text.into(), status }
+    }
+}
+
+/// What a command says on standard error in place of an answer, and its exit status.
+#[derive(Debug, PartialEq, Eq)]
+pub struct Failure {
+    pub text: String,
+    pub status: u8,
+}
+
+/// What the system says of an error, without the number that Rust adds.
+pub fn why(error: &io::Error) -> String {
+    let text = error.to_string();
+    text.split(" (os error").next().unwrap_or("").to_string()
+}
+
+impl From<String> for Failure {
+    fn from(text: String) -> Failure {
+        Failure { text, status: FAILED }
+    }
+}
+
+impl From<&str> for Failure {
+    fn from(text: &str) -> Failure {
+        text.to_string().into()
+    }
+}

@@ -1,0 +1,266 @@
+//! What the command has, in one table: by it arguments are read, and `--help` and the manual page are written.
+
+use crate::args::Args;
+use crate::commands::{asm, diff, dis, explain, new, run, show, walk};
+use crate::failure::{Failure, Outcome};
+use crate::style::Style;
+
+/// What a command prints, given its arguments and whether there is colour.
+type Run = fn(&Args, Style) -> Result<Outcome, Failure>;
+
+pub struct Command {
+    pub name: &'static str,
+    pub operands: &'static str,
+    pub summary: &'static str,
+    pub text: &'static str,
+    pub options: &'static [Opt],
+    pub example: &'static str,
+    pub run: Run,
+}
+
+pub struct Opt {
+    /// Its name, without dashes; one letter is a short option.
+    pub key: &'static str,
+    /// What its value is called, if it takes one.
+    pub value: Option<&'static str>,
+    pub repeats: bool,
+    pub text: &'static str,
+}
+
+impl Opt {
+    pub fn name(&self) -> String {
+        if self.key.len() == 1 {
+            format!("-{}", self.key)
+        } else {
+            format!("--{}", self.key)
+        }
+    }
+
+    fn usage(&self) -> String {
+        let value = self.value.map_or(String::new(), |value| format!(" {value}"));
+        let dots = if self.repeats { ".." } else { "" };
+        format!("{}{value}{dots}", self.name())
+    }
+}
+
+const fn flag(key: &'static str, text: &'static str) -> Opt {
+    Opt { key, value: None, repeats: false, text }
+}
+
+const fn option(key: &'static str, value: &'static str, text: &'static str) -> Opt {
+    Opt { key, value: Some(value), repeats: false, text }
+}
+
+const fn repeated(key: &'static str, value: &'static str, text: &'static str) -> Opt {
+    Opt { key, value: Some(value), repeats: true, text }
+}
+
+const JSON: Opt = flag("json", "print JSON; numbers of 64 bits are texts of decimal digits");
+
+pub const COMMANDS: &[Command] = &[
+    Command {
+        name: "run",
+        operands: "[FILE]",
+        summary: "steps the words of an image, a line for each",
+        text: "Prints for each word its number, the word, the reply and NZCV, and at the end how many words are done; 'image R' \
+               alone if the image is refused.",
+        options: &[flag("trace", "each line also has the instruction and what it changed, before and after"), JSON],
+        example: "run --trace tail.image",
+        run: run::command,
+    },
+    Command {
+        name: "show",
+        operands: "FILE",
+        summary: "shows the register state in an image",
+        text: "Shows the settings, the X that are not zero, each predicate with its count and its lanes, the lowest first, \
+               counters as WHILE writes them, FFR, and the flags: N says that the first active lane is true, Z that none is, C that the \
+               last is not.",
+        options: &[
+            option("after", "N", "the state after N words have been stepped"),
+            option("size", "b|h|s|d", "the size of lanes: bytes (as without this option), halfwords, words, doublewords"),
+            JSON,
+        ],
+        example: "show --after 2 tail.image",
+        run: show::command,
+    },
+    Command {
+        name: "dis",
+        operands: "WORD.. | FILE",
+        summary: "shows words as instructions",
+        text: "A WORD has up to eight hexadecimal digits; anything else names an image. Prints each word with its instruction, as LLVM \
+               writes it, and the level that it asks: 1 SVE, 2 SVE2, 3 SVE2p1. A word that is none of ours is foreign if its bits 31:24 are not \
+               00100101, else undefined here.",
+        options: &[flag("aliases", "show mov, movs, not and nots where they apply"), JSON],
+        example: "dis 25a21c20 2519c401",
+        run: dis::command,
+    },
+    Command {
+        name: "asm",
+        operands: "TEXT.. | FILE.s",
+        summary: "turns instructions into words",
+        text: "A TEXT is an instruction in Arm's syntax, or more with ';' between them. A FILE.s has them in lines; // begins a comment. \
+               '.inst 0x25104041' stands for a word as it is. Prints the words.",
+        options: &[],
+        example: "asm 'whilelo p0.s, x1, x2'",
+        run: asm::command,
+    },
+    Command {
+        name: "new",
+        operands: "-o FILE --vl BITS [KERNEL.s]",
+        summary: "makes an image",
+        text: "Writes an image with the words of KERNEL.s, or with none. What is not given is zero, but the level, which is 3.",
+        options: &[
+            option("o", "FILE", "the image to write; - for standard output"),
+            option("vl", "BITS", "the vector length"),
+            option("level", "N", "0 none, 1 SVE, 2 SVE2, 3 SVE2p1"),
+            flag("no-access", "access to SVE is off"),
+            repeated("x", "N=VALUE", "X register N, and so on for others; 0x.. is hexadecimal, and -1 wraps around"),
+            repeated("p", "N.SIZE=LANES", "the true lanes of P register N, and so on for others: 0-4,7, all or none"),
+            option("ffr", "LANES", "the true lanes of FFR, in bytes"),
+            option("nzcv", "BITS", "the flags, as 1010"),
+        ],
+        example: "new -o tail.image --vl 512 -x 1=64 -x 2=69 -p 1.b=0-4,7 tail.s",
+        run: new::command,
+    },
+    Command {
+        name: "explain",
+        operands: "NUMBER | FILE",
+        summary: "says what a reply means, or where an image is at fault",
+        text: "For a NUMBER the reply in words. For an image that is refused the section, the byte, its value and what is allowed there; \
+               for one that is not, the word that is refused, if there is one, and why.",
+        options: &[JSON],
+        example: "explain tail.image",
+        run: explain::command,
+    },
+    Command {
+        name: "diff",
+        operands: "A B",
+        summary: "shows what differs between two images",
+        text: "Compares the states and the words of two images. Exit status 0 if they are alike, 1 if they differ.",
+        options: &[JSON],
+        example: "diff tail.image later.image",
+        run: diff::command,
+    },
+    Command {
+        name: "walk",
+        operands: "FILE -n N -m M -d D -k K",
+        summary: "walks the positions from Xn up to Xm, on the state in an image",
+        text: "PFALSE Pk; then WHILELO Pd from Xn to Xm, PNEXT Pk through Pd, INCP Xn by Pd, repeated until no lane is left. \
+               Prints the reply, how many instructions were executed, the positions visited and the state after.",
+        options: &[
+            option("n", "N", "the X register with the first position"),
+            option("m", "M", "the X register with the limit; 31 is zero"),
+            option("d", "D", "the P register that WHILELO writes"),
+            option("k", "K", "the P register that PNEXT writes"),
+            option("size", "b|h|s|d", "the size of elements: bytes if it is not given"),
+            option("budget", "N", "the most instructions; as many as it takes if it is not given"),
+            JSON,
+        ],
+        example: "walk tail.image -n 1 -m 2 -d 0 -k 1",
+        run: walk::command,
+    },
+];
+
+pub const VERSION: &str = concat!("plokamyr ", env!("CARGO_PKG_VERSION"));
+
+const ABOUT: &str = "Shows and converts images, words and register states of the predicate part of an Arm SVE interpreter. What an instruction \
+                     does comes from the proved library.";
+
+const STATUS: [(&str, &str); 4] = [
+    ("0", "done"),
+    ("1", "a word or a walk was refused; images differ"),
+    ("2", "an image was refused"),
+    ("3", "anything else, with a line on standard error that says what"),
+];
+
+/// The page of all commands.
+pub fn overview() -> String {
+    let mut page = format!("usage: plokamyr COMMAND ..\n\n{}\n\n", folded(ABOUT, 0));
+    for command in COMMANDS {
+        page += &format!("  {:<8} {}\n", command.name, command.summary);
+    }
+    page += "\nplokamyr COMMAND --help has more of each, plokamyr --man the manual page; there is --version too.\n";
+    page += "A FILE may be - for standard input.\n\nExit status:\n";
+    for (status, meaning) in STATUS {
+        page += &format!("  {status}  {meaning}\n");
+    }
+    page
+}
+
+/// The page of one command.
+pub fn page(command: &Command) -> String {
+    let options = if command.options.is_empty() { "" } else { " [OPTIONS]" };
+    let mut page =
+        format!("usage: plokamyr {} {}{options}\n\n{}\n", command.name, command.operands, folded(command.text, 0));
+    let width = command.options.iter().map(|option| option.usage().len()).max().unwrap_or(0);
+    for (place, option) in command.options.iter().enumerate() {
+        let text = folded(option.text, width + 4);
+        page += if place == 0 { "\n" } else { "" };
+        page += &format!("  {:<width$}  {text}\n", option.usage());
+    }
+    if command.name == "asm" {
+        page += &format!("\n{}.\n", folded(&format!("Instructions: {}", mnemonics()), 0));
+    }
+    page + &format!("\nFor example:\n    plokamyr {}\n", command.example)
+}
+
+fn mnemonics() -> String {
+    let mut names: Vec<&str> = crate::syntax::table().iter().map(|syntax| syntax.mnemonic).collect();
+    names.sort_unstable();
+    names.dedup();
+    names.join(", ")
+}
+
+/// A text in lines of at most 100 characters, those after the first set in.
+fn folded(text: &str, indent: usize) -> String {
+    let (mut lines, mut line) = (Vec::new(), String::new());
+    for word in text.split_whitespace() {
+        if !line.is_empty() && indent + line.len() + 1 + word.len() > 100 {
+            lines.push(std::mem::take(&mut line));
+        }
+        if !line.is_empty() {
+            line.push(' ');
+        }
+        line += word;
+    }
+    lines.push(line);
+    lines.join(&format!("\n{}", " ".repeat(indent)))
+}
+
+/// The manual page, for man(1).
+pub fn manual() -> String {
+    let mut page = format!(
+        ".TH PLOKAMYR 1 \"\" \"{VERSION}\"\n.SH NAME\nplokamyr \\- images, words and states of SVE predicates\n"
+    );
+    page += &format!(
+        ".SH SYNOPSIS\n.B plokamyr\n.I COMMAND\n\\&..\n.SH DESCRIPTION\n{}\n.I FILE\nmay be \\- for standard input.\n",
+        roff(ABOUT)
+    );
+    for command in COMMANDS {
+        page += &section(command);
+    }
+    page += ".SH EXIT STATUS\n";
+    for (status, meaning) in STATUS {
+        page += &format!(".TP\n{status}\n{}\n", roff(meaning));
+    }
+    page
+}
+
+fn section(command: &Command) -> String {
+    let name = command.name.to_uppercase();
+    let mut text =
+        format!(".SH {name}\n.B plokamyr {}\n{}\n.PP\n{}\n", command.name, roff(command.operands), roff(command.text));
+    for option in command.options {
+        text += &format!(".TP\n.B {}\n{}\n", roff(&option.usage()), roff(option.text));
+    }
+    text + &format!(".PP\nFor example:\n.PP\n.nf\nplokamyr {}\n.fi\n", roff(command.example))
+}
+
+/// A text as roff takes it: dashes and quotes are what they are, and no line begins with a control character.
+fn roff(text: &str) -> String {
+    let plain = text.replace('\\', "\\e").replace('-', "\\-").replace('\'', "\\(aq");
+    match plain.starts_with('.') {
+        true => format!("\\&{plain}"),
+        false => plain,
+    }
+}

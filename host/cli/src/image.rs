@@ -1,0 +1,61 @@
+//! Images in files.
+
+use crate::failure::{why, Failure, IMAGE_REFUSED};
+use crate::faults::fault;
+use plokamyr::{read, Reply, State, WORDS_MAX};
+use std::fs::File;
+use std::io::{self, Read};
+
+/// An image that the library accepts.
+#[derive(Clone, Debug)]
+pub struct Image {
+    pub state: State,
+    pub words: Vec<u32>,
+}
+
+/// More than any image has, as in `./run`.
+const MOST: u64 = 1 << 20;
+
+/// The bytes of a file, or of standard input for `-`; no more of them than tell what an image is answered.
+pub fn bytes(path: &str) -> Result<Vec<u8>, Failure> {
+    let mut bytes = Vec::new();
+    let read = match path {
+        "-" => io::stdin().lock().take(MOST).read_to_end(&mut bytes),
+        _ => File::open(path).and_then(|file| file.take(MOST).read_to_end(&mut bytes)),
+    };
+    match read {
+        Ok(_) => Ok(bytes),
+        Err(error) => Err(format!("{} cannot be read: {}", named(path), why(&error)).into()),
+    }
+}
+
+/// A file as messages name it.
+pub fn named(path: &str) -> String {
+    match path {
+        "-" => "standard input".to_string(),
+        "" => "''".to_string(),
+        _ => path.to_string(),
+    }
+}
+
+/// Reads an image; a refusal is told with its place.
+pub fn load(path: &str) -> Result<Image, Failure> {
+    let bytes = bytes(path)?;
+    image(&bytes).map_err(|reply| {
+        let place = fault(&bytes).map_or(reply.to_string(), |fault| fault.to_string());
+        Failure { text: format!("{} is refused: {place}", named(path)), status: IMAGE_REFUSED }
+    })
+}
+
+/// The image of some bytes, or the library's refusal.
+pub fn image(bytes: &[u8]) -> Result<Image, Reply> {
+    let mut words = vec![0; WORDS_MAX];
+    let reading = read(bytes, &mut words);
+    match reading.reply {
+        Reply::Done => {
+            words.truncate(reading.count);
+            Ok(Image { state: reading.state, words })
+        }
+        refusal => Err(refusal),
+    }
+}

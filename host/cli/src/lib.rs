@@ -1,0 +1,53 @@
+//! The command `plokamyr`: it shows and converts, and every meaning comes from the proved library.
+//!
+//! `syntax` has the text of instructions in one table, `help` the commands in another. `commands` has a module for each.
+
+mod args;
+mod assemble;
+mod change;
+mod commands;
+mod counter;
+mod disassemble;
+mod dump;
+mod failure;
+mod faults;
+mod help;
+mod image;
+mod json;
+mod lanes;
+mod source;
+mod style;
+mod syntax;
+mod words;
+
+pub use assemble::{assemble, Fault};
+pub use disassemble::{disassemble, level, Aliases};
+pub use failure::{why, Failure, Outcome};
+pub use style::Style;
+
+/// What the command answers to its arguments, after its own name.
+pub fn answer(given: &[String], style: Style) -> Result<Outcome, Failure> {
+    let done = |text: String| Ok(Outcome::new(text, failure::DONE));
+    let (name, rest) = match given {
+        [] => return Err("a command is missing (try --help)".into()),
+        [name, rest @ ..] => (name.as_str(), rest),
+    };
+    match name {
+        "-h" | "--help" | "help" => return done(help::overview()),
+        "-V" | "--version" => return done(format!("{}\n", help::VERSION)),
+        "--man" => return done(help::manual()),
+        _ => {}
+    }
+    let command = help::COMMANDS.iter().find(|command| command.name == name);
+    let command = command.ok_or_else(|| unknown(name))?;
+    if rest.iter().take_while(|text| *text != "--").any(|text| text == "-h" || text == "--help") {
+        return done(help::page(command));
+    }
+    let named = |failure: Failure| Failure { text: format!("{name}: {}", failure.text), ..failure };
+    args::parse(command, rest).and_then(|args| (command.run)(&args, style)).map_err(named)
+}
+
+fn unknown(name: &str) -> Failure {
+    let names: Vec<&str> = help::COMMANDS.iter().map(|command| command.name).collect();
+    format!("there is no command '{name}': {} would do (try --help)", words::listed(&names)).into()
+}

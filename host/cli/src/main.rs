@@ -1,0 +1,35 @@
+//! Writes the answer to standard output, or why there is none to standard error.
+
+use cli::{answer, why, Failure, Outcome, Style};
+use std::env::args_os;
+use std::io::{self, ErrorKind, Write};
+use std::process::ExitCode;
+
+/// What a shell tells of a command that SIGPIPE has ended.
+const READER_GONE: u8 = 141;
+
+fn main() -> ExitCode {
+    // a name that is no UTF-8 is named as far as it can be, and not found
+    let given: Vec<String> = args_os().skip(1).map(|text| text.to_string_lossy().into_owned()).collect();
+    let status = match answer(&given, Style::of(&io::stdout())) {
+        Ok(outcome) => deliver(&outcome),
+        Err(failure) => say(&failure),
+    };
+    ExitCode::from(status)
+}
+
+/// If the reader goes away early nothing is said, as with any command.
+fn deliver(outcome: &Outcome) -> u8 {
+    let mut out = io::stdout().lock();
+    match out.write_all(&outcome.text).and_then(|()| out.flush()) {
+        Ok(()) => outcome.status,
+        Err(error) if error.kind() == ErrorKind::BrokenPipe => READER_GONE,
+        Err(error) => say(&format!("standard output cannot be written: {}", why(&error)).into()),
+    }
+}
+
+/// A closed standard error changes no exit status.
+fn say(failure: &Failure) -> u8 {
+    let _ = writeln!(io::stderr(), "{} {}", Style::of(&io::stderr()).red("plokamyr:"), failure.text);
+    failure.status
+}

@@ -1,0 +1,80 @@
+//! Texts that are damaged at random: each is refused with a place within it, or is an instruction that only blanks and large
+//! letters set apart from what is shown for its word. None panics.
+
+use cli::{assemble, disassemble, Aliases};
+
+struct Random(u64);
+
+impl Random {
+    fn below(&mut self, bound: usize) -> usize {
+        self.0 = self.0.wrapping_mul(6_364_136_223_846_793_005).wrapping_add(1_442_695_040_888_963_407);
+        (self.0 >> 33) as usize % bound
+    }
+
+    fn of<'a, T>(&mut self, items: &'a [T]) -> &'a T {
+        &items[self.below(items.len())]
+    }
+}
+
+const STRANGE: [char; 24] = [
+    'p', 'x', 'w', 'n', 'z', 'm', 'b', 's', 'q', '0', '1', '9', '.', ',', '/', '{', '}', ' ', '\t', '-', ';', '\0',
+    'é', '█',
+];
+
+fn texts(random: &mut Random) -> Vec<String> {
+    let mut texts = Vec::new();
+    while texts.len() < 2_000 {
+        let word = 0x2500_0000 | random.below(1 << 24) as u32;
+        let aliases = *random.of(&[Aliases::Off, Aliases::On]);
+        texts.extend(disassemble(word, aliases));
+    }
+    texts
+}
+
+fn damaged(text: &str, other: &str, random: &mut Random) -> String {
+    let mut chars: Vec<char> = text.chars().collect();
+    for _ in 0..=random.below(3) {
+        let at = random.below(chars.len() + 1);
+        match random.below(7) {
+            0 => chars.insert(at, *random.of(&STRANGE)),
+            1 => chars.truncate(at),
+            2 => chars.extend(other.chars().skip(at)),
+            _ if at == chars.len() => chars.push(' '),
+            3 => drop(chars.remove(at)),
+            4 => chars[at] = *random.of(&STRANGE),
+            5 => chars.swap(at, 0),
+            _ => chars[at] = chars[at].to_ascii_uppercase(),
+        }
+    }
+    chars.into_iter().collect()
+}
+
+/// Without blanks and in small letters.
+fn bare(text: &str) -> String {
+    text.chars().filter(|c| !c.is_whitespace()).collect::<String>().to_ascii_lowercase()
+}
+
+#[test]
+fn damaged_lines() {
+    let mut random = Random(2026);
+    let texts = texts(&mut random);
+    let (mut taken, mut refused) = (0, 0);
+    for _ in 0..200_000 {
+        let (text, other) = (random.of(&texts).clone(), random.of(&texts).clone());
+        let line = damaged(&text, &other, &mut random);
+        match assemble(&line) {
+            Ok(word) => {
+                let shown = [Aliases::Off, Aliases::On].map(|aliases| bare(&disassemble(word, aliases).unwrap()));
+                assert!(shown.contains(&bare(&line)), "{line:?} is taken for {shown:?}");
+                taken += 1;
+            }
+            Err(fault) => {
+                assert!(line.is_char_boundary(fault.at), "{line:?}: {fault:?}");
+                assert!(!fault.expected.is_empty() && !fault.found.is_empty());
+                refused += 1;
+            }
+        }
+    }
+    // most are damaged for good, and some are not
+    assert!(taken > 10_000 && refused > 100_000, "{taken} {refused}");
+}
