@@ -51,6 +51,9 @@ pub fn begins_instruction(text: &str) -> bool {
     first == DIRECTIVE || table().iter().any(|syntax| syntax.mnemonic == first)
 }
 
+/// How many characters of a long name are shown.
+const SHOWN: usize = 40;
+
 /// A run of letters, digits, `_` and `.`, or another character that is no blank. The last one is empty, at the text's end.
 #[derive(Clone, Copy, Debug)]
 struct Token<'a> {
@@ -65,9 +68,11 @@ impl Token<'_> {
 
     /// A fault `skip` bytes into the token.
     fn fault_at(&self, skip: usize, expected: &str) -> Fault {
-        let found = match self.text.get(skip..).unwrap_or("") {
-            "" => "the end".to_string(),
-            rest => format!("'{rest}'"),
+        let rest = self.text.get(skip..).unwrap_or("");
+        let found = match rest.char_indices().nth(SHOWN) {
+            _ if rest.is_empty() => "the end".to_string(),
+            Some((length, _)) => format!("'{}..'", &rest[..length]),
+            None => format!("'{rest}'"),
         };
         Fault { at: self.at + skip, found, expected: vec![expected.to_string()] }
     }

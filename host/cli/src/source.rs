@@ -5,33 +5,49 @@ use crate::style::Style;
 
 /// A line that is at fault, and where.
 #[derive(Clone, Debug, PartialEq, Eq)]
-pub struct Problem {
+struct Problem {
     /// From 1 on.
-    pub line: usize,
-    pub text: String,
-    pub fault: Fault,
+    line: usize,
+    text: String,
+    fault: Fault,
 }
+
+/// What is at fault in a text: the first lines, and how many more there are.
+#[derive(Clone, Debug, Default, PartialEq, Eq)]
+pub struct Problems {
+    first: Vec<Problem>,
+    more: usize,
+}
+
+/// How many problems are kept.
+const KEPT: usize = 10;
 
 /// The words of a text. A line has one instruction or more, with `;` between them, or none; `//` begins a comment up to the
 /// line's end, and one between `/*` and `*/` may go over lines.
-pub fn words(source: &str) -> Result<Vec<u32>, Vec<Problem>> {
-    let (mut words, mut problems) = (Vec::new(), Vec::new());
+pub fn words(source: &str) -> Result<Vec<u32>, Problems> {
+    let (mut words, mut problems) = (Vec::new(), Problems::default());
     let bare = without_comments(source);
     for (number, (line, bare)) in (1..).zip(source.split('\n').zip(bare.split('\n'))) {
         for (start, statement) in statements(bare) {
             match assemble(statement) {
                 Ok(word) => words.push(word),
-                Err(fault) => {
-                    let fault = Fault { at: start + fault.at, ..fault };
-                    problems.push(Problem { line: number, text: line.to_string(), fault });
-                }
+                Err(fault) => problems.add(number, line, Fault { at: start + fault.at, ..fault }),
             }
         }
     }
-    if problems.is_empty() {
+    if problems.first.is_empty() {
         Ok(words)
     } else {
         Err(problems)
+    }
+}
+
+impl Problems {
+    fn add(&mut self, line: usize, text: &str, fault: Fault) {
+        match self.first.len() < KEPT {
+            true => self.first.push(Problem { line, text: text.to_string(), fault }),
+            false => self.more += 1,
+        }
     }
 }
 
@@ -75,24 +91,27 @@ fn comment_length(text: &str) -> usize {
     }
 }
 
-/// The most problems of one text that are shown.
-const SHOWN: usize = 10;
-
 /// Each problem in three lines: where and what, the line, a mark below the place.
-pub fn report(name: &str, problems: &[Problem], style: Style) -> String {
-    let mut lines: Vec<String> = problems.iter().take(SHOWN).map(|problem| problem.report(name, style)).collect();
-    if problems.len() > SHOWN {
-        lines.push(format!("and {} more", problems.len() - SHOWN));
+pub fn report(name: &str, problems: &Problems, style: Style) -> String {
+    let mut lines: Vec<String> = problems.first.iter().map(|problem| problem.report(name, style)).collect();
+    if problems.more > 0 {
+        lines.push(format!("and {} more", problems.more));
     }
     lines.join("\n")
 }
 
+/// How much of a line is shown before its place, and at most.
+const BEFORE: usize = 60;
+const SHOWN: usize = 120;
+
 impl Problem {
     fn report(&self, name: &str, style: Style) -> String {
         let column = self.text[..self.fault.at].chars().count();
-        let shown: String = self.text.chars().map(|c| if c.is_control() { ' ' } else { c }).collect();
-        let mark = format!("{}{}", " ".repeat(column), style.green("^"));
-        format!("{name}:{}:{}: {}\n    {}\n    {mark}", self.line, column + 1, self.fault, shown.trim_end())
+        let left_out = if column < SHOWN - 1 { 0 } else { column - BEFORE };
+        let shown = self.text.chars().skip(left_out).take(SHOWN).map(|c| if c.is_control() { ' ' } else { c });
+        let mark = format!("{}{}", " ".repeat(column - left_out), style.green("^"));
+        let line: String = shown.collect();
+        format!("{name}:{}:{}: {}\n    {}\n    {mark}", self.line, column + 1, self.fault, line.trim_end())
     }
 }
 
@@ -123,5 +142,15 @@ kernel.s:4:8: expected the end of the instruction, found '/'
     setffr /* no end
            ^";
         assert_eq!(report, expected);
+    }
+
+    #[test]
+    fn long_lines_and_many_problems() {
+        let long = format!("{}q", ";".repeat(1_000));
+        let shown = report("kernel.s", &words(&long).unwrap_err(), Style::PLAIN);
+        let expected = format!("    {}q\n    {}^", ";".repeat(BEFORE), " ".repeat(BEFORE));
+        assert!(shown.starts_with("kernel.s:1:1001: ") && shown.ends_with(&expected), "{shown}");
+        let many = report("kernel.s", &words(&"q;".repeat(100_000)).unwrap_err(), Style::PLAIN);
+        assert!(many.ends_with("\nand 99990 more") && many.len() < 3_000, "{many}");
     }
 }

@@ -1,7 +1,7 @@
 //! Texts that are damaged at random: each is refused with a place within it, or is an instruction that only blanks and large
 //! letters set apart from what is shown for its word. None panics.
 
-use cli::{assemble, disassemble, Aliases};
+use cli::{answer, assemble, disassemble, Aliases, Style};
 
 struct Random(u64);
 
@@ -54,6 +54,18 @@ fn bare(text: &str) -> String {
     text.chars().filter(|c| !c.is_whitespace()).collect::<String>().to_ascii_lowercase()
 }
 
+/// The command refuses the line too, and marks a place below it. With `;` or `/` a line may have more than one instruction, or
+/// none; a blank one, and a single word, which may be a file's name, are refused without a mark.
+fn refused_with_a_mark(line: &str) {
+    let given = ["asm", "--", line].map(String::from);
+    let answer = answer(&given, Style::PLAIN);
+    if line.contains([';', '/']) || !line.trim().contains(char::is_whitespace) {
+        return;
+    }
+    let failure = answer.unwrap_err();
+    assert!(failure.status == 3 && failure.text.ends_with('^'), "{line:?}: {}", failure.text);
+}
+
 #[test]
 fn damaged_lines() {
     let mut random = Random(2026);
@@ -72,6 +84,9 @@ fn damaged_lines() {
                 assert!(line.is_char_boundary(fault.at), "{line:?}: {fault:?}");
                 assert!(!fault.expected.is_empty() && !fault.found.is_empty());
                 refused += 1;
+                if refused % 10 == 0 {
+                    refused_with_a_mark(&line);
+                }
             }
         }
     }

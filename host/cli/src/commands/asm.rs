@@ -24,9 +24,10 @@ pub fn assembled(name: &str, source: &str) -> Result<Vec<u32>, Failure> {
     words(source).map_err(|problems| Failure { text: report(name, &problems, style), status: FAILED })
 }
 
-/// What begins no instruction names a file if it ends in `.s` or if there is one; `-` is standard input.
+/// What begins no instruction names a file if there is one, or if it is one word that ends in `.s`; `-` is standard input.
 fn is_file(text: &str) -> bool {
-    text == "-" || !begins_instruction(text) && (text.ends_with(".s") || Path::new(text).is_file())
+    let named = text.ends_with(".s") && !text.contains(char::is_whitespace);
+    text == "-" || !begins_instruction(text) && (named || Path::new(text).exists())
 }
 
 /// A file's text. Bytes that are no UTF-8 are no instruction either, and are refused in their place.

@@ -66,6 +66,6 @@ fn walked(state: &State, size: u32, [n, m, d, k]: [u32; 4], budget: u64) -> (Wal
         if walked.reply != Reply::ListTooShort || list.len() >= PLACES {
             return (walked, list);
         }
-        list.resize(list.len() * 16, 0);
+        list = vec![0; list.len() * 16]; // not resized: memory that nothing has touched costs nothing
     }
 }

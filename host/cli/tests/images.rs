@@ -1,0 +1,175 @@
+//! Images at random: what is drawn of a state is what the library counts in it, a run prints what the library does, and no
+//! command panics, whatever the image is.
+
+use cli::{answer, Style};
+use plokamyr::{text, write, Flags, Predicate, Reply, State, IMAGE_MAX};
+use std::env::temp_dir;
+use std::{fs, process};
+
+struct Random(u64);
+
+impl Random {
+    fn next(&mut self) -> u64 {
+        self.0 = self.0.wrapping_mul(6_364_136_223_846_793_005).wrapping_add(1_442_695_040_888_963_407);
+        let high = self.0 >> 32;
+        self.0 = self.0.wrapping_mul(6_364_136_223_846_793_005).wrapping_add(1_442_695_040_888_963_407);
+        high << 32 | self.0 >> 32
+    }
+
+    fn below(&mut self, bound: u64) -> u64 {
+        self.next() % bound
+    }
+
+    /// Full, empty, a run from bit 0, a counter's bits, or any bits, below a length.
+    fn predicate(&mut self, length: u64) -> Predicate {
+        let limit = match self.below(4) {
+            0 => self.below(length + 1),
+            _ => length,
+        };
+        let kind = self.below(4);
+        let mut predicate = Predicate::default();
+        for bit in 0..limit {
+            let set = match kind {
+                0 => true,
+                1 => false,
+                2 => bit < 16 && self.below(3) == 0,
+                _ => self.below(2) == 0,
+            };
+            predicate.words[bit as usize / 64] |= u64::from(set) << (bit % 64);
+        }
+        predicate
+    }
+
+    fn state(&mut self) -> State {
+        let mut state = State::new(128 << self.below(5), self.below(4) as u8);
+        let length = state.vl() / 8;
+        state.access = self.below(8) > 0;
+        state.flags =
+            Flags { n: self.below(2) == 0, z: self.below(2) == 0, c: self.below(2) == 0, v: self.below(2) == 0 };
+        state.x = [(); 31].map(|()| self.next() >> self.below(64));
+        state.set_all_p([(); 16].map(|()| self.predicate(length)));
+        state.ffr = self.predicate(length);
+        state
+    }
+
+    /// Mostly instructions; some foreign, some undefined.
+    fn words(&mut self) -> Vec<u32> {
+        let count = self.below(20);
+        let any = |random: &mut Random| 0x2500_0000 | random.below(1 << 24) as u32;
+        let mut words: Vec<u32> = (0..count).map(|_| any(self)).collect();
+        for word in &mut words {
+            while self.below(50) > 0 && plokamyr::decode(*word).is_err() {
+                *word = any(self);
+            }
+        }
+        words
+    }
+}
+
+fn image(state: &State, words: &[u32]) -> Vec<u8> {
+    let mut image = vec![0; IMAGE_MAX];
+    let written = write(state, words, &mut image);
+    assert_eq!(written.reply, Reply::Done);
+    image.truncate(written.length);
+    image
+}
+
+/// The command's answer to words of which `FILE` stands for a file with these bytes: text and status.
+fn asked(words: &str, bytes: &[u8]) -> (String, u8) {
+    let path = temp_dir().join(format!("plokamyr-{}-{:?}", process::id(), std::thread::current().id()));
+    fs::write(&path, bytes).unwrap();
+    let given: Vec<String> = words.split(' ').map(|word| word.replace("FILE", path.to_str().unwrap())).collect();
+    let answer = answer(&given, Style::PLAIN);
+    fs::remove_file(&path).unwrap();
+    match answer {
+        Ok(outcome) => (String::from_utf8(outcome.text).unwrap(), outcome.status),
+        Err(failure) => (failure.text, failure.status),
+    }
+}
+
+/// How many lanes are drawn as true below each register's name, and how many its line says.
+fn drawn(shown: &str) -> Vec<(String, usize, usize)> {
+    let mut all: Vec<(String, usize, usize)> = Vec::new();
+    for line in shown.lines() {
+        let lanes = line.chars().filter(|c| *c == '█').count();
+        match line.split_once('/').filter(|(head, _)| head.contains('.')) {
+            Some((head, _)) => {
+                let (name, count) = head.rsplit_once(' ').unwrap();
+                all.push((name.trim().to_string(), count.parse().unwrap(), lanes));
+            }
+            None if lanes > 0 => all.last_mut().unwrap().2 += lanes,
+            None => {}
+        }
+    }
+    all
+}
+
+#[test]
+fn states_are_shown_as_the_library_counts_them() {
+    let mut random = Random(1);
+    for _ in 0..200 {
+        let state = random.state();
+        let bytes = image(&state, &[]);
+        for (size, letter) in ['b', 'h', 's', 'd'].into_iter().enumerate() {
+            let (shown, status) = asked(&format!("show FILE --size {letter}"), &bytes);
+            assert_eq!(status, 0);
+            let drawn = drawn(&shown);
+            for (name, count, lanes) in &drawn {
+                assert_eq!(count, lanes, "{name}\n{shown}");
+            }
+            for number in 0..16 {
+                let count = usize::from(state.count(number, size as u32));
+                let name = format!("p{number}.{letter}");
+                let found = drawn.iter().find(|(known, _, _)| *known == name);
+                // one that is not drawn is empty, as the one before
+                assert_eq!(found.map_or(0, |(_, count, _)| *count), count, "{name}\n{shown}");
+            }
+        }
+    }
+}
+
+#[test]
+fn runs_print_what_the_library_does() {
+    let mut random = Random(2);
+    for _ in 0..300 {
+        let (mut state, words) = (random.state(), random.words());
+        let bytes = image(&state, &words);
+        let (printed, status) = asked("run FILE", &bytes);
+        assert_eq!(printed.as_bytes(), text(&bytes));
+        let ran = state.run(&words);
+        assert_eq!(status == 0, ran.refused == Reply::Done);
+        let (traced, same) = asked("run FILE --trace", &bytes);
+        assert_eq!(same, status);
+        // a trace has the lines of the run, and more behind each
+        assert_eq!(traced.lines().count(), printed.lines().count());
+        assert!(traced.lines().zip(printed.lines()).all(|(traced, line)| traced.starts_with(line)), "{traced}");
+        let after = asked(&format!("show FILE --after {}", ran.done), &bytes);
+        assert_eq!(after.0.split_once('\n').unwrap().1, asked("show FILE", &image(&state, &[])).0);
+    }
+}
+
+#[test]
+fn damaged_images() {
+    let mut random = Random(3);
+    for _ in 0..2_000 {
+        let mut bytes = image(&random.state(), &random.words());
+        match random.below(4) {
+            0 => bytes.truncate(random.below(bytes.len() as u64 + 1) as usize),
+            1 => bytes.extend([(); 3].map(|()| random.next() as u8)),
+            _ => {}
+        }
+        for _ in 0..random.below(4) {
+            // the sections' counts and settings are at both ends
+            let place = if random.below(2) == 0 { random.below(20) } else { random.below(bytes.len() as u64 + 1) };
+            bytes.get_mut(place as usize).into_iter().for_each(|byte| *byte = random.next() as u8);
+        }
+        let accepted = plokamyr::read(&bytes, &mut [0; 4096]).reply == Reply::Done;
+        for words in
+            ["explain FILE", "show FILE", "diff FILE FILE", "walk FILE -n 1 -m 2 -d 0 -k 1 --budget 50", "dis FILE"]
+        {
+            let (text, status) = asked(words, &bytes);
+            assert_eq!(status == 2, !accepted, "{words}: {text}");
+            assert!(accepted || text.contains("byte"), "{words}: {text}");
+        }
+    }
+}
