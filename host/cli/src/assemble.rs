@@ -2,7 +2,7 @@
 
 use crate::disassemble::general;
 use crate::syntax::{table, Field, Operand, Syntax, SIZES};
-use crate::words::listed;
+use crate::words::{listed, natural};
 use plokamyr::{encode, Row};
 use std::fmt;
 
@@ -102,20 +102,17 @@ fn further(one: Option<Fault>, other: Fault) -> Fault {
     match one {
         Some(one) if one.at > other.at => one,
         Some(mut one) if one.at == other.at => {
-            one.expected.extend(other.expected);
-            one.expected.dedup();
+            let known = one.expected.clone();
+            one.expected.extend(other.expected.into_iter().filter(|new| !known.contains(new)));
             one
         }
         _ => other,
     }
 }
 
+/// The operand of `.inst`.
 fn number(tokens: &[Token]) -> Result<u32, Fault> {
-    let text = tokens[1].text.to_ascii_lowercase();
-    let value = match text.strip_prefix("0x") {
-        Some(digits) if !digits.starts_with('+') => u32::from_str_radix(digits, 16).ok(),
-        _ => text.parse().ok().filter(|_| !text.starts_with('+')),
-    };
+    let value = natural(tokens[1].text).and_then(|value| u32::try_from(value).ok());
     let word = value.ok_or_else(|| tokens[1].fault("a word, as 0x25a21c20"))?;
     end(&tokens[2])?;
     Ok(word)

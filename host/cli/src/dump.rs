@@ -17,24 +17,24 @@ pub fn dump(state: &State, size: u32, style: Style) -> String {
     let mut lines = vec![settings(state)];
     lines.extend(general(state));
     lines.extend(predicates(state, size, style));
-    lines.extend(register(&format!("ffr.{}", SIZES[size as usize]), &state.ffr, state.vl(), size, style));
+    lines.extend(register("ffr", &state.ffr, state.vl(), size, style));
     lines.push(flags(state));
-    lines.concat()
+    lines.iter().map(|line| format!("{line}\n")).collect()
 }
 
 fn settings(state: &State) -> String {
     let level = LEVELS.get(usize::from(state.level)).unwrap_or(&"?");
     let access = if state.access { "on" } else { "off" };
-    format!("vl {}  level {} ({level})  access {access}\n", state.vl(), state.level)
+    format!("vl {}  level {} ({level})  access {access}", state.vl(), state.level)
 }
 
 fn general(state: &State) -> impl Iterator<Item = String> + '_ {
     let set = state.x.iter().enumerate().filter(|(_, value)| **value != 0);
-    set.map(|(number, value)| format!("{:<6} {}\n", format!("x{number}"), value_shown(*value)))
+    set.map(|(number, value)| format!("{:<6} {}", format!("x{number}"), shown(*value)))
 }
 
-/// A register's value; one that is not small in hexadecimal digits too.
-pub fn value_shown(value: u64) -> String {
+/// A value; one that is not small in hexadecimal digits too.
+fn shown(value: u64) -> String {
     match value {
         0..=9 => value.to_string(),
         _ => format!("{value} ({value:#x})"),
@@ -44,60 +44,52 @@ pub fn value_shown(value: u64) -> String {
 /// P0 to P15. Of empty ones that stand side by side the first is drawn, and names the others.
 fn predicates(state: &State, size: u32, style: Style) -> Vec<String> {
     let empty = |number: &usize| state.p()[*number] == Predicate::default();
-    let letter = SIZES[size as usize];
     let mut lines = Vec::new();
     let mut number = 0;
     while number < 16 {
         let last = (number..16).take_while(empty).last().unwrap_or(number);
-        lines.extend(register(&format!("p{number}.{letter}"), &state.p()[number], state.vl(), size, style));
-        if last > number {
-            let others = if last == number + 1 { String::new() } else { format!("p{}.{letter} to ", number + 1) };
-            append(&mut lines, &style.dim(&format!("  also {others}p{last}.{letter}")));
-        }
+        let mut drawn = register(&format!("p{number}"), &state.p()[number], state.vl(), size, style);
+        drawn[0] += &style.dim(&also(number + 1, last, SIZES[size as usize]));
+        lines.extend(drawn);
         lines.extend(counter_line(state, number));
         number = last + 1;
     }
     lines
 }
 
-/// Puts a text at the end of the last line.
-fn append(lines: &mut [String], text: &str) {
-    if let Some(line) = lines.last_mut() {
-        *line = format!("{}{text}\n", line.trim_end_matches('\n'));
+/// Names registers that are as the one before; nothing if there are none.
+fn also(first: usize, last: usize, letter: char) -> String {
+    match last.checked_sub(first) {
+        None => String::new(),
+        Some(0) => format!("  also p{last}.{letter}"),
+        Some(_) => format!("  also p{first}.{letter} to p{last}.{letter}"),
     }
 }
 
 /// WHILE writes counters to P8 to P15 alone.
 fn counter_line(state: &State, number: usize) -> Option<String> {
     let counter = counter(&state.p()[number], state.vl()).filter(|_| number >= 8)?;
-    Some(format!("pn{number}{}, {}\n", counter.shown(false), counter.of_four()))
+    Some(format!("pn{number}{}, {}", counter.shown(false), counter.of_four()))
 }
 
 /// A predicate's name, its count and its lanes; then lines that go on with these, below them.
 fn register(name: &str, predicate: &Predicate, vl: u64, size: u32, style: Style) -> Vec<String> {
-    let (elements, count) = (elements(vl, size), count(predicate, vl, size));
+    let (letter, elements) = (SIZES[size as usize], elements(vl, size));
     let width = elements.to_string().len();
-    let head = format!("{name:<6} {count:>width$}/{elements} ");
-    let below = " ".repeat(head.len());
-    let mut lines: Vec<String> =
-        picture(predicate, vl, size, style).iter().map(|line| format!("{below}{line}\n")).collect();
-    lines[0].replace_range(..head.len(), &head);
-    let hidden = hidden(predicate, size);
-    if hidden > 0 {
-        lines.push(format!(
-            "{below}and {} that .{} does not read\n",
-            counted(hidden as u64, "bit"),
-            SIZES[size as usize]
-        ));
+    let head = format!("{:<6} {:>width$}/{elements} ", format!("{name}.{letter}"), count(predicate, vl, size));
+    let mut below = picture(predicate, vl, size, style);
+    if hidden(predicate, size) > 0 {
+        below.push(format!("and {} that .{letter} does not read", counted(hidden(predicate, size) as u64, "bit")));
     }
-    lines
+    let before = |place| if place == 0 { head.clone() } else { " ".repeat(head.len()) };
+    below.iter().enumerate().map(|(place, line)| before(place) + line).collect()
 }
 
 /// The flags, with what a test of a predicate says by them.
 fn flags(state: &State) -> String {
     let said = |yes| if yes { "yes" } else { "no" };
     let flags = state.flags;
-    format!("nzcv   {flags}  first {}  none {}  last {}\n", said(flags.n), said(flags.z), said(!flags.c))
+    format!("nzcv   {flags}  first {}  none {}  last {}", said(flags.n), said(flags.z), said(!flags.c))
 }
 
 /// The state as JSON. X are decimal digits, predicates hexadecimal ones with the true elements as ranges.

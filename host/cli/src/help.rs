@@ -4,6 +4,7 @@ use crate::args::Args;
 use crate::commands::{asm, diff, dis, explain, new, run, show, walk};
 use crate::failure::{Failure, Outcome};
 use crate::style::Style;
+use crate::syntax::table;
 
 /// What a command prints, given its arguments and whether there is colour.
 type Run = fn(&Args, Style) -> Result<Outcome, Failure>;
@@ -13,6 +14,8 @@ pub struct Command {
     pub operands: &'static str,
     pub summary: &'static str,
     pub text: &'static str,
+    /// What is listed besides.
+    pub list: Option<fn() -> String>,
     pub options: &'static [Opt],
     pub example: &'static str,
     pub run: Run,
@@ -27,6 +30,14 @@ pub struct Opt {
     pub text: &'static str,
 }
 
+impl Command {
+    /// How it is called.
+    pub fn usage(&self) -> String {
+        let options = if self.options.is_empty() { "" } else { " [OPTIONS]" };
+        format!("plokamyr {} {}{options}", self.name, self.operands)
+    }
+}
+
 impl Opt {
     pub fn name(&self) -> String {
         if self.key.len() == 1 {
@@ -36,7 +47,8 @@ impl Opt {
         }
     }
 
-    fn usage(&self) -> String {
+    /// With its value, and dots if it may be given again.
+    pub fn usage(&self) -> String {
         let value = self.value.map_or(String::new(), |value| format!(" {value}"));
         let dots = if self.repeats { ".." } else { "" };
         format!("{}{value}{dots}", self.name())
@@ -64,6 +76,7 @@ pub const COMMANDS: &[Command] = &[
         summary: "steps the words of an image, a line for each",
         text: "Prints for each word its number, the word, the reply and NZCV, and at the end how many words are done; 'image R' \
                alone if the image is refused.",
+        list: None,
         options: &[flag("trace", "each line also has the instruction and what it changed, before and after"), JSON],
         example: "run --trace tail.image",
         run: run::command,
@@ -75,6 +88,7 @@ pub const COMMANDS: &[Command] = &[
         text: "Shows the settings, the X that are not zero, each predicate with its count and its lanes, the lowest first, \
                counters as WHILE writes them, FFR, and the flags: N says that the first active lane is true, Z that none is, C that the \
                last is not.",
+        list: None,
         options: &[
             option("after", "N", "the state after N words have been stepped"),
             option("size", "b|h|s|d", "the size of lanes: bytes (as without this option), halfwords, words, doublewords"),
@@ -90,6 +104,7 @@ pub const COMMANDS: &[Command] = &[
         text: "A WORD has up to eight hexadecimal digits; anything else names an image. Prints each word with its instruction, as LLVM \
                writes it, and the level that it asks: 1 SVE, 2 SVE2, 3 SVE2p1. A word that is none of ours is foreign if its bits 31:24 are not \
                00100101, else undefined here.",
+        list: None,
         options: &[flag("aliases", "show mov, movs, not and nots where they apply"), JSON],
         example: "dis 25a21c20 2519c401",
         run: dis::command,
@@ -100,6 +115,7 @@ pub const COMMANDS: &[Command] = &[
         summary: "turns instructions into words",
         text: "A TEXT is an instruction in Arm's syntax, or more with ';' between them. A FILE.s has them in lines; // begins a comment. \
                '.inst 0x25104041' stands for a word as it is. Prints the words.",
+        list: Some(instructions),
         options: &[],
         example: "asm 'whilelo p0.s, x1, x2'",
         run: asm::command,
@@ -109,6 +125,7 @@ pub const COMMANDS: &[Command] = &[
         operands: "-o FILE --vl BITS [KERNEL.s]",
         summary: "makes an image",
         text: "Writes an image with the words of KERNEL.s, or with none. What is not given is zero, but the level, which is 3.",
+        list: None,
         options: &[
             option("o", "FILE", "the image to write; - for standard output"),
             option("vl", "BITS", "the vector length"),
@@ -128,6 +145,7 @@ pub const COMMANDS: &[Command] = &[
         summary: "says what a reply means, or where an image is at fault",
         text: "For a NUMBER the reply in words. For an image that is refused the section, the byte, its value and what is allowed there; \
                for one that is not, the word that is refused, if there is one, and why.",
+        list: None,
         options: &[JSON],
         example: "explain tail.image",
         run: explain::command,
@@ -137,6 +155,7 @@ pub const COMMANDS: &[Command] = &[
         operands: "A B",
         summary: "shows what differs between two images",
         text: "Compares the states and the words of two images. Exit status 0 if they are alike, 1 if they differ.",
+        list: None,
         options: &[JSON],
         example: "diff tail.image later.image",
         run: diff::command,
@@ -147,6 +166,7 @@ pub const COMMANDS: &[Command] = &[
         summary: "walks the positions from Xn up to Xm, on the state in an image",
         text: "PFALSE Pk; then WHILELO Pd from Xn to Xm, PNEXT Pk through Pd, INCP Xn by Pd, repeated until no lane is left. \
                Prints the reply, how many instructions were executed, the positions visited and the state after.",
+        list: None,
         options: &[
             option("n", "N", "the X register with the first position"),
             option("m", "M", "the X register with the limit; 31 is zero"),
@@ -163,10 +183,10 @@ pub const COMMANDS: &[Command] = &[
 
 pub const VERSION: &str = concat!("plokamyr ", env!("CARGO_PKG_VERSION"));
 
-const ABOUT: &str = "Shows and converts images, words and register states of the predicate part of an Arm SVE interpreter. What an instruction \
+pub const ABOUT: &str = "Shows and converts images, words and register states of the predicate part of an Arm SVE interpreter. What an instruction \
                      does comes from the proved library.";
 
-const STATUS: [(&str, &str); 4] = [
+pub const STATUS: [(&str, &str); 4] = [
     ("0", "done"),
     ("1", "a word or a walk was refused; images differ"),
     ("2", "an image was refused"),
@@ -189,26 +209,24 @@ pub fn overview() -> String {
 
 /// The page of one command.
 pub fn page(command: &Command) -> String {
-    let options = if command.options.is_empty() { "" } else { " [OPTIONS]" };
-    let mut page =
-        format!("usage: plokamyr {} {}{options}\n\n{}\n", command.name, command.operands, folded(command.text, 0));
+    let mut page = format!("usage: {}\n\n{}\n", command.usage(), folded(command.text, 0));
     let width = command.options.iter().map(|option| option.usage().len()).max().unwrap_or(0);
     for (place, option) in command.options.iter().enumerate() {
         let text = folded(option.text, width + 4);
         page += if place == 0 { "\n" } else { "" };
         page += &format!("  {:<width$}  {text}\n", option.usage());
     }
-    if command.name == "asm" {
-        page += &format!("\n{}.\n", folded(&format!("Instructions: {}", mnemonics()), 0));
+    if let Some(list) = command.list {
+        page += &format!("\n{}\n", folded(&list(), 0));
     }
     page + &format!("\nFor example:\n    plokamyr {}\n", command.example)
 }
 
-fn mnemonics() -> String {
-    let mut names: Vec<&str> = crate::syntax::table().iter().map(|syntax| syntax.mnemonic).collect();
+fn instructions() -> String {
+    let mut names: Vec<&str> = table().iter().map(|syntax| syntax.mnemonic).collect();
     names.sort_unstable();
     names.dedup();
-    names.join(", ")
+    format!("Instructions: {}.", names.join(", "))
 }
 
 /// A text in lines of at most 100 characters, those after the first set in.
@@ -225,42 +243,4 @@ fn folded(text: &str, indent: usize) -> String {
     }
     lines.push(line);
     lines.join(&format!("\n{}", " ".repeat(indent)))
-}
-
-/// The manual page, for man(1).
-pub fn manual() -> String {
-    let mut page = format!(
-        ".TH PLOKAMYR 1 \"\" \"{VERSION}\"\n.SH NAME\nplokamyr \\- images, words and states of SVE predicates\n"
-    );
-    page += &format!(
-        ".SH SYNOPSIS\n.B plokamyr\n.I COMMAND\n\\&..\n.SH DESCRIPTION\n{}\n.I FILE\nmay be \\- for standard input.\n",
-        roff(ABOUT)
-    );
-    for command in COMMANDS {
-        page += &section(command);
-    }
-    page += ".SH EXIT STATUS\n";
-    for (status, meaning) in STATUS {
-        page += &format!(".TP\n{status}\n{}\n", roff(meaning));
-    }
-    page
-}
-
-fn section(command: &Command) -> String {
-    let name = command.name.to_uppercase();
-    let mut text =
-        format!(".SH {name}\n.B plokamyr {}\n{}\n.PP\n{}\n", command.name, roff(command.operands), roff(command.text));
-    for option in command.options {
-        text += &format!(".TP\n.B {}\n{}\n", roff(&option.usage()), roff(option.text));
-    }
-    text + &format!(".PP\nFor example:\n.PP\n.nf\nplokamyr {}\n.fi\n", roff(command.example))
-}
-
-/// A text as roff takes it: dashes and quotes are what they are, and no line begins with a control character.
-fn roff(text: &str) -> String {
-    let plain = text.replace('\\', "\\e").replace('-', "\\-").replace('\'', "\\(aq");
-    match plain.starts_with('.') {
-        true => format!("\\&{plain}"),
-        false => plain,
-    }
 }

@@ -67,17 +67,10 @@ pub fn picture(predicate: &Predicate, vl: u64, size: u32, style: Style) -> Vec<S
     let lanes = lanes(predicate, vl, size);
     let groups: Vec<&[bool]> = lanes.chunks(8 >> size).collect();
     let drawn = groups.iter().rposition(|group| group.contains(&true)).map_or(1, |last| last + 1);
-    let mut pieces: Vec<String> = groups.iter().take(drawn).map(|group| draw(group, style)).collect();
+    let pieces: Vec<String> = groups.iter().take(drawn).map(|group| draw(group, style)).collect();
+    let mut lines: Vec<String> = pieces.chunks([8, 8, 16, 32][size as usize]).map(|line| line.join(" ")).collect();
     if drawn < groups.len() {
-        pieces.push(style.dim(".."));
-    }
-    let in_a_line = [8, 8, 16, 32][size as usize];
-    // the two dots take no line of their own
-    let length = if drawn % in_a_line == 0 { in_a_line + 1 } else { in_a_line };
-    let mut lines: Vec<String> = Vec::new();
-    while !pieces.is_empty() {
-        let taken = if pieces.len() <= length { pieces.len() } else { in_a_line };
-        lines.push(pieces.drain(..taken).collect::<Vec<_>>().join(" "));
+        lines.last_mut().into_iter().for_each(|line| *line += &style.dim(" .."));
     }
     lines
 }

@@ -15,6 +15,7 @@ mod help;
 mod image;
 mod json;
 mod lanes;
+mod manual;
 mod source;
 mod style;
 mod syntax;
@@ -35,7 +36,7 @@ pub fn answer(given: &[String], style: Style) -> Result<Outcome, Failure> {
     match name {
         "-h" | "--help" | "help" => return done(help::overview()),
         "-V" | "--version" => return done(format!("{}\n", help::VERSION)),
-        "--man" => return done(help::manual()),
+        "--man" => return done(manual::manual()),
         _ => {}
     }
     let command = help::COMMANDS.iter().find(|command| command.name == name);
