@@ -2,7 +2,7 @@
 
 use crate::disassemble::general;
 use crate::syntax::{table, Field, Operand, Syntax, SIZES};
-use crate::words::{listed, natural};
+use crate::words::{listed, natural, plain};
 use plokamyr::{encode, Row};
 use std::fmt;
 
@@ -70,19 +70,23 @@ impl Token<'_> {
     fn fault_at(&self, skip: usize, expected: &str) -> Fault {
         let rest = self.text.get(skip..).unwrap_or("");
         let found = match rest.char_indices().nth(SHOWN) {
-            _ if rest.is_empty() => "the end".to_string(),
+            _ if self.text.is_empty() => "the end".to_string(),
+            _ if rest.is_empty() => "nothing".to_string(),
             Some((length, _)) => format!("'{}..'", &rest[..length]),
-            None => format!("'{rest}'"),
+            None => format!("'{}'", plain(rest)),
         };
         Fault { at: self.at + skip, found, expected: vec![expected.to_string()] }
     }
 }
 
+/// More tokens than an instruction has: what follows them makes it none the less none.
+const MOST: usize = 40;
+
 fn tokens(text: &str) -> Vec<Token<'_>> {
     let part = |c: char| c.is_ascii_alphanumeric() || c == '_' || c == '.';
     let mut all = Vec::new();
     let mut at = 0;
-    while let Some(c) = text[at..].chars().next() {
+    while let Some(c) = text[at..].chars().next().filter(|_| all.len() < MOST) {
         let rest = &text[at..];
         let length = match part(c) {
             true => rest.find(|c| !part(c)).unwrap_or(rest.len()),
@@ -191,6 +195,13 @@ impl<'a> Reader<'a> {
         Ok(())
     }
 
+    /// Sets the field that the whole token stands for, and goes on to the next.
+    fn take(&mut self, name: Field, value: u8, shown: impl Fn(u8) -> String) -> Result<(), Fault> {
+        self.set(name, value, 0, shown)?;
+        self.next += 1;
+        Ok(())
+    }
+
     /// Sets a field, `skip` bytes into the token. One that is written twice is the same both times, as `shown` names it.
     fn set(&mut self, name: Field, value: u8, skip: usize, shown: impl Fn(u8) -> String) -> Result<(), Fault> {
         let place = self.place(name);
@@ -214,14 +225,10 @@ impl<'a> Reader<'a> {
     fn general(&mut self, prefix: &str, name: Field) -> Result<(), Fault> {
         let zero = self.token().text.eq_ignore_ascii_case(&format!("{prefix}zr"));
         let found = if zero { Some((31, 3)) } else { self.register(prefix, 0, 30) };
-        match found {
-            Some((number, length)) if length == self.token().text.len() => {
-                self.set(name, number, 0, |known| general(prefix, known))?
-            }
-            _ => return Err(self.token().fault(&format!("{prefix}0 to {prefix}30 or {prefix}zr"))),
+        match found.filter(|(_, length)| *length == self.token().text.len()) {
+            Some((number, _)) => self.take(name, number, |known| general(prefix, known)),
+            None => Err(self.token().fault(&format!("{prefix}0 to {prefix}30 or {prefix}zr"))),
         }
-        self.next += 1;
-        Ok(())
     }
 
     /// A predicate register's number, what follows it in the token, and where that begins.
@@ -235,9 +242,7 @@ impl<'a> Reader<'a> {
         if !suffix.is_empty() {
             return Err(self.token().fault_at(skip, "no size here"));
         }
-        self.set(name, number, 0, |known| format!("p{known}"))?;
-        self.next += 1;
-        Ok(())
+        self.take(name, number, |known| format!("p{known}"))
     }
 
     fn bytes(&mut self, name: Field) -> Result<(), Fault> {
@@ -245,16 +250,12 @@ impl<'a> Reader<'a> {
         if !suffix.eq_ignore_ascii_case(".b") {
             return Err(self.token().fault_at(skip, "'.b'"));
         }
-        self.set(name, number, 0, |known| format!("p{known}.b"))?;
-        self.next += 1;
-        Ok(())
+        self.take(name, number, |known| format!("p{known}.b"))
     }
 
     fn sized(&mut self, name: Field, prefix: &str, first: u8) -> Result<(), Fault> {
         let number = self.with_size(prefix, first)?;
-        self.set(name, number - first, 0, |known| format!("{prefix}{}", first + known))?;
-        self.next += 1;
-        Ok(())
+        self.take(name, number - first, |known| format!("{prefix}{}", first + known))
     }
 
     /// The number of a predicate register that stands with a size, which is that of the instruction.
@@ -283,8 +284,7 @@ impl<'a> Reader<'a> {
         if first % 2 == 1 {
             return Err(self.token().fault("an even register, the first of a pair"));
         }
-        self.set(name, first / 2, 0, |known| format!("p{}", 2 * known))?;
-        self.next += 1;
+        self.take(name, first / 2, |known| format!("p{}", 2 * known))?;
         self.mark(",")?;
         if self.with_size("p", 0)? != first + 1 {
             return Err(self.token().fault(&format!("p{}, the second of the pair", first + 1)));
@@ -296,9 +296,7 @@ impl<'a> Reader<'a> {
     fn group(&mut self, name: Field) -> Result<(), Fault> {
         let group = ["vlx2", "vlx4"].iter().position(|group| self.token().text.eq_ignore_ascii_case(group));
         let group = group.ok_or_else(|| self.token().fault("vlx2 or vlx4"))?;
-        self.set(name, group as u8, 0, |known| format!("vlx{}", 2 << known))?;
-        self.next += 1;
-        Ok(())
+        self.take(name, group as u8, |known| format!("vlx{}", 2 << known))
     }
 }
 

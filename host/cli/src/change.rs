@@ -12,23 +12,46 @@ use std::fmt;
 #[derive(Clone, Debug, PartialEq, Eq)]
 pub struct Change {
     pub register: String,
-    pub before: String,
-    pub after: String,
+    values: [Value; 2],
+}
+
+#[derive(Clone, Debug, PartialEq, Eq)]
+enum Value {
+    Number(u64),
+    Text(String),
+}
+
+impl Value {
+    fn is_large(&self) -> bool {
+        matches!(self, Value::Number(number) if number >> 32 != 0)
+    }
+
+    fn shown(&self, hexadecimal: bool) -> String {
+        match self {
+            Value::Number(number) if hexadecimal => format!("{number:#x}"),
+            Value::Number(number) => number.to_string(),
+            Value::Text(text) => text.clone(),
+        }
+    }
 }
 
 impl fmt::Display for Change {
+    /// Both numbers are hexadecimal if one of them is large.
     fn fmt(&self, out: &mut fmt::Formatter) -> fmt::Result {
-        write!(out, "{} {} -> {}", self.register, self.before, self.after)
+        let hexadecimal = self.values.iter().any(Value::is_large);
+        let [before, after] = [0, 1].map(|side| self.values[side].shown(hexadecimal));
+        write!(out, "{} {before} -> {after}", self.register)
     }
 }
 
 impl Change {
     pub fn json(&self) -> Json {
-        Json::Object(vec![
-            ("register", Json::text(&self.register)),
-            ("before", Json::text(&self.before)),
-            ("after", Json::text(&self.after)),
-        ])
+        let [before, after] = [0, 1].map(|side| Json::text(self.values[side].shown(false)));
+        Json::Object(vec![("register", Json::text(&self.register)), ("before", before), ("after", after)])
+    }
+
+    fn new(register: &str, values: [Value; 2]) -> Change {
+        Change { register: register.to_string(), values }
     }
 }
 
@@ -54,59 +77,56 @@ impl View {
 
 /// What differs: settings, X, predicates, FFR, flags.
 pub fn changes(before: &State, after: &State, view: View) -> Vec<Change> {
-    let change =
-        |register: &str, before: String, after: String| Change { register: register.to_string(), before, after };
-    let mut all = vec![
-        change("vl", before.vl().to_string(), after.vl().to_string()),
-        change("level", before.level.to_string(), after.level.to_string()),
-        change("access", on(before.access), on(after.access)),
-    ];
-    for (number, (before, after)) in before.x.iter().zip(&after.x).enumerate() {
-        let [before, after] = numbers_shown([*before, *after]);
-        all.push(change(&format!("x{number}"), before, after));
+    let sides = [before, after];
+    let mut all = vec![numbers("vl", sides.map(State::vl)), numbers("level", sides.map(|side| side.level.into()))];
+    all.push(texts("access", sides.map(|side| side.access), |access| if *access { "on" } else { "off" }.to_string()));
+    for number in 0..31 {
+        all.push(numbers(&format!("x{number}"), sides.map(|side| side.x[number])));
     }
-    let vl = [before.vl(), after.vl()];
-    for (number, (before, after)) in
-        before.p().iter().zip(after.p()).enumerate().filter(|(_, (one, other))| one != other)
-    {
-        all.push(predicate("p", &number.to_string(), [before, after], vl, view));
+    let vl = sides.map(State::vl);
+    for number in 0..16 {
+        all.push(predicate("p", &number.to_string(), sides.map(|side| &side.p()[number]), vl, view));
     }
-    if before.ffr != after.ffr {
-        all.push(predicate("ffr", "", [&before.ffr, &after.ffr], vl, View::Elements(0)));
-    }
-    all.push(change("nzcv", before.flags.to_string(), after.flags.to_string()));
-    all.retain(|change| change.before != change.after);
-    all
+    all.push(predicate("ffr", "", sides.map(|side| &side.ffr), vl, View::Elements(0)));
+    all.push(texts("nzcv", sides.map(|side| side.flags), ToString::to_string));
+    all.into_iter().flatten().collect()
 }
 
-fn on(access: bool) -> String {
-    if access { "on" } else { "off" }.to_string()
+fn numbers(register: &str, values: [u64; 2]) -> Option<Change> {
+    (values[0] != values[1]).then(|| Change::new(register, values.map(Value::Number)))
 }
 
-/// In decimal digits, or both in hexadecimal ones if one of them is large.
-fn numbers_shown(values: [u64; 2]) -> [String; 2] {
-    match values.iter().all(|value| value >> 32 == 0) {
-        true => values.map(|value| value.to_string()),
-        false => values.map(|value| format!("{value:#x}")),
-    }
+fn texts<T: PartialEq>(register: &str, values: [T; 2], shown: impl Fn(&T) -> String) -> Option<Change> {
+    (values[0] != values[1]).then(|| Change::new(register, values.map(|value| Value::Text(shown(&value)))))
 }
 
 /// A predicate register in the view, or in bytes if the view does not show all bits of both values.
-fn predicate(name: &str, number: &str, values: [&Predicate; 2], vl: [u64; 2], view: View) -> Change {
-    let counters = |four| Some((as_counter(values[0], vl[0], four)?, as_counter(values[1], vl[1], four)?));
-    let counted = if let View::Counters { four } = view { counters(four) } else { None };
-    if let Some((before, after)) = counted {
-        return Change { register: format!("{name}n{number}"), before, after };
+fn predicate(name: &str, number: &str, values: [&Predicate; 2], vl: [u64; 2], view: View) -> Option<Change> {
+    if values[0] == values[1] {
+        return None;
     }
     let size = match view {
+        View::Counters { four } => match counters([0, 1].map(|side| (values[side], vl[side])), four) {
+            Some(shown) => return Some(Change::new(&format!("{name}n{number}"), shown.map(Value::Text))),
+            None => 0,
+        },
         View::Elements(size) if values.iter().all(|value| hidden(value, size) == 0) => size,
-        _ => 0,
+        View::Elements(_) => 0,
     };
-    let [before, after] = [0, 1].map(|side| shown(values[side], vl[side], size));
-    Change { register: format!("{name}{number}.{}", SIZES[size as usize]), before, after }
+    let shown = [0, 1].map(|side| Value::Text(shown(values[side], vl[side], size)));
+    Some(Change::new(&format!("{name}{number}.{}", SIZES[size as usize]), shown))
 }
 
-fn as_counter(predicate: &Predicate, vl: u64, four: bool) -> Option<String> {
+/// Two values as counters, if both are such. What is alike in two vectors differs in four.
+fn counters([one, other]: [(&Predicate, u64); 2], four: bool) -> Option<[String; 2]> {
+    let shown = [as_counter(one, four)?, as_counter(other, four)?];
+    match shown[0] == shown[1] {
+        true => Some([as_counter(one, true)?, as_counter(other, true)?]),
+        false => Some(shown),
+    }
+}
+
+fn as_counter((predicate, vl): (&Predicate, u64), four: bool) -> Option<String> {
     match *predicate == Predicate::default() {
         true => Some("none".to_string()),
         false => counter(predicate, vl).map(|counter| counter.shown(four)),

@@ -7,7 +7,6 @@ use crate::style::Style;
 use crate::syntax::SIZES;
 use crate::words::counted;
 use plokamyr::{Predicate, State};
-use std::ops::RangeInclusive;
 
 /// The names of the levels.
 const LEVELS: [&str; 4] = ["none", "SVE", "SVE2", "SVE2p1"];
@@ -66,10 +65,13 @@ fn also(first: usize, last: usize, letter: char) -> String {
     }
 }
 
-/// WHILE writes counters to P8 to P15 alone.
+/// The counter that a register holds. WHILE writes counters to P8 to P15 alone.
+fn held(state: &State, number: usize) -> Option<Counter> {
+    counter(&state.p()[number], state.vl()).filter(|_| number >= 8)
+}
+
 fn counter_line(state: &State, number: usize) -> Option<String> {
-    let counter = counter(&state.p()[number], state.vl()).filter(|_| number >= 8)?;
-    Some(format!("pn{number}{}, {}", counter.shown(false), counter.of_four()))
+    held(state, number).map(|counter| format!("pn{number}{}, {}", counter.shown(false), counter.of_four()))
 }
 
 /// A predicate's name, its count and its lanes; then lines that go on with these, below them.
@@ -78,8 +80,9 @@ fn register(name: &str, predicate: &Predicate, vl: u64, size: u32, style: Style)
     let width = elements.to_string().len();
     let head = format!("{:<6} {:>width$}/{elements} ", format!("{name}.{letter}"), count(predicate, vl, size));
     let mut below = picture(predicate, vl, size, style);
-    if hidden(predicate, size) > 0 {
-        below.push(format!("and {} that .{letter} does not read", counted(hidden(predicate, size) as u64, "bit")));
+    let hidden = hidden(predicate, size) as u64;
+    if hidden > 0 {
+        below.push(format!("and {} that .{letter} does not read", counted(hidden, "bit")));
     }
     let before = |place| if place == 0 { head.clone() } else { " ".repeat(head.len()) };
     below.iter().enumerate().map(|(place, line)| before(place) + line).collect()
@@ -94,7 +97,8 @@ fn flags(state: &State) -> String {
 
 /// The state as JSON. X are decimal digits, predicates hexadecimal ones with the true elements as ranges.
 pub fn json(state: &State, size: u32) -> Json {
-    let p = (0..16).map(|number| predicate_json(&format!("p{number}"), &state.p()[number], state, size));
+    let p = (0..16)
+        .map(|number| predicate_json(&format!("p{number}"), &state.p()[number], state, size, held(state, number)));
     let flags = state.flags;
     Json::Object(vec![
         ("vl", Json::Number(state.vl() as u32)),
@@ -102,7 +106,7 @@ pub fn json(state: &State, size: u32) -> Json {
         ("access", Json::Bool(state.access)),
         ("x", Json::list(state.x.iter().map(Json::text))),
         ("p", Json::list(p)),
-        ("ffr", predicate_json("ffr", &state.ffr, state, size)),
+        ("ffr", predicate_json("ffr", &state.ffr, state, size, None)),
         ("nzcv", Json::text(flags)),
         ("first", Json::Bool(flags.n)),
         ("none", Json::Bool(flags.z)),
@@ -110,18 +114,17 @@ pub fn json(state: &State, size: u32) -> Json {
     ])
 }
 
-fn predicate_json(name: &str, predicate: &Predicate, state: &State, size: u32) -> Json {
+fn predicate_json(name: &str, predicate: &Predicate, state: &State, size: u32, counter: Option<Counter>) -> Json {
     let vl = state.vl();
     let mut fields = vec![
         ("name", Json::text(name)),
         ("size", Json::text(SIZES[size as usize])),
         ("count", Json::Number(count(predicate, vl, size).into())),
         ("of", Json::Number(elements(vl, size) as u32)),
-        ("lanes", lanes_json(&ranges(predicate, vl, size))),
+        ("lanes", Json::ranges(&ranges(predicate, vl, size))),
         ("bits", Json::text(bits(predicate, vl))),
     ];
-    let as_counter = counter(predicate, vl).filter(|_| name != "ffr");
-    fields.extend(as_counter.map(|counter| ("counter", counter_json(&counter))));
+    fields.extend(counter.map(|counter| ("counter", counter_json(&counter))));
     Json::Object(fields)
 }
 
@@ -133,12 +136,6 @@ fn counter_json(counter: &Counter) -> Json {
         ("vlx2", group(counter.groups[0])),
         ("vlx4", group(counter.groups[1])),
     ])
-}
-
-/// Lanes as pairs of the first and the last of each range.
-fn lanes_json(ranges: &[RangeInclusive<u64>]) -> Json {
-    let number = |lane: &u64| Json::Number(*lane as u32);
-    Json::list(ranges.iter().map(|range| Json::list([number(range.start()), number(range.end())])))
 }
 
 /// The bits of a predicate as a hexadecimal number, the highest first.

@@ -3,7 +3,9 @@
 //! Which values are allowed only the library says: it is given images that end with the count or the section in question. Known
 //! here is the layout: the order of the sections, the names and widths of their parts, and that a cut comes before a value.
 
-use crate::words::numbers;
+use crate::image::MOST;
+use crate::json::Json;
+use crate::words::{numbers, runs};
 use plokamyr::{read, write, Reply, State, IMAGE_MAX, WORDS_MAX};
 use std::fmt;
 
@@ -38,8 +40,8 @@ pub enum Found {
     Cut { present: usize, missing: usize, at_least: bool },
     /// The value of one byte, or of the four of a count, and all that the library allows there, the least first.
     NotAllowed { value: u32, bytes: usize, allowed: Vec<u32> },
-    /// So many bytes stand after the last section.
-    Trailing { bytes: usize },
+    /// So many bytes stand after the last section; `at_least` if not all of the file was read.
+    Trailing { bytes: usize, at_least: bool },
 }
 
 /// The first fault of an image that the library refuses; none if it is accepted.
@@ -158,8 +160,12 @@ impl Search<'_> {
             }
         }
         let bytes = self.image.len() - at;
-        let place =
-            Place { section: "end", part: "trailing bytes".to_owned(), offset: at, found: Found::Trailing { bytes } };
+        let place = Place {
+            section: "end",
+            part: "trailing bytes".to_owned(),
+            offset: at,
+            found: Found::Trailing { bytes, at_least: self.image.len() >= MOST },
+        };
         Some(place).filter(|_| bytes > 0)
     }
 
@@ -234,6 +240,37 @@ impl Place {
     }
 }
 
+impl Fault {
+    /// As JSON, with fields before its own.
+    pub fn json(&self, before: &[(&'static str, Json)]) -> Json {
+        let mut fields = before.to_vec();
+        fields.push(("reply", Json::Number(self.reply.number())));
+        fields.extend(self.place.iter().flat_map(Place::fields));
+        fields.push(("text", Json::text(self)));
+        Json::Object(fields)
+    }
+}
+
+impl Place {
+    fn fields(&self) -> Vec<(&'static str, Json)> {
+        let number = |number: usize| Json::Number(number as u32);
+        let mut fields = vec![
+            ("section", Json::text(self.section)),
+            ("part", Json::text(&self.part)),
+            ("offset", number(self.offset)),
+        ];
+        fields.extend(match &self.found {
+            Found::Cut { missing, .. } => vec![("missing", number(*missing))],
+            Found::NotAllowed { value, allowed, .. } => {
+                let ranges = runs(allowed.iter().copied().map(u64::from));
+                vec![("value", Json::Number(*value)), ("allowed", Json::ranges(&ranges))]
+            }
+            Found::Trailing { bytes, .. } => vec![("trailing", number(*bytes))],
+        });
+        fields
+    }
+}
+
 impl fmt::Display for Fault {
     fn fmt(&self, out: &mut fmt::Formatter) -> fmt::Result {
         match &self.place {
@@ -262,9 +299,9 @@ impl fmt::Display for Place {
                 }
                 write!(out, ": allowed {verb} {}", numbers(allowed))
             }
-            Found::Trailing { bytes } => {
-                let follow = bytes_do(*bytes, "follows", "follow");
-                write!(out, "{offset} bytes are the image, {follow}: nothing may stand there")
+            Found::Trailing { bytes, at_least } => {
+                let (least, follow) = (if *at_least { "at least " } else { "" }, bytes_do(*bytes, "follows", "follow"));
+                write!(out, "{offset} bytes are the image, {least}{follow}: nothing may stand there")
             }
         }
     }
@@ -489,7 +526,7 @@ mod tests {
             for bytes in [1, 2, 3, 4, 100, 20_000] {
                 let image = [&good.image[..], &vec![7; bytes]].concat();
                 let (part, offset) = ("trailing bytes".to_owned(), good.image.len());
-                let found = Found::Trailing { bytes };
+                let found = Found::Trailing { bytes, at_least: false };
                 assert_eq!(place(&image), Some(Place { section: "end", part, offset, found }));
             }
         }

@@ -2,6 +2,7 @@
 
 use crate::failure::{why, Failure, IMAGE_REFUSED};
 use crate::faults::fault;
+use crate::json::Json;
 use plokamyr::{read, Reply, State, WORDS_MAX};
 use std::fs::File;
 use std::io::{self, Read};
@@ -14,14 +15,19 @@ pub struct Image {
 }
 
 /// More than any image has, as in `./run`.
-const MOST: u64 = 1 << 20;
+pub const MOST: usize = 1 << 20;
 
 /// The bytes of a file, or of standard input for `-`; no more of them than tell what an image is answered.
 pub fn bytes(path: &str) -> Result<Vec<u8>, Failure> {
+    contents(path, MOST)
+}
+
+/// The bytes of a file, or of standard input for `-`, at most so many.
+pub fn contents(path: &str, most: usize) -> Result<Vec<u8>, Failure> {
     let mut bytes = Vec::new();
     let read = match path {
-        "-" => io::stdin().lock().take(MOST).read_to_end(&mut bytes),
-        _ => File::open(path).and_then(|file| file.take(MOST).read_to_end(&mut bytes)),
+        "-" => io::stdin().lock().take(most as u64).read_to_end(&mut bytes),
+        _ => File::open(path).and_then(|file| file.take(most as u64).read_to_end(&mut bytes)),
     };
     match read {
         Ok(_) => Ok(bytes),
@@ -42,8 +48,10 @@ pub fn named(path: &str) -> String {
 pub fn load(path: &str) -> Result<Image, Failure> {
     let bytes = bytes(path)?;
     image(&bytes).map_err(|reply| {
-        let place = fault(&bytes).map_or(reply.to_string(), |fault| fault.to_string());
-        Failure { text: format!("{} is refused: {place}", named(path)), status: IMAGE_REFUSED }
+        let fault = fault(&bytes);
+        let place = fault.as_ref().map_or(reply.to_string(), ToString::to_string);
+        let json = fault.map(|fault| fault.json(&[("file", Json::text(path))]));
+        Failure { status: IMAGE_REFUSED, json, ..format!("{} is refused: {place}", named(path)).into() }
     })
 }
 

@@ -1,6 +1,7 @@
 //! JSON, as far as it is written here.
 
 use std::fmt;
+use std::ops::RangeInclusive;
 
 /// A value. Numbers of 64 bits are texts, since many readers keep only 53 bits of a number.
 #[derive(Clone, Debug, PartialEq, Eq)]
@@ -20,6 +21,12 @@ impl Json {
 
     pub fn list(items: impl IntoIterator<Item = Json>) -> Json {
         Json::List(items.into_iter().collect())
+    }
+
+    /// Ranges of small numbers, as pairs of the first and the last of each.
+    pub fn ranges(ranges: &[RangeInclusive<u64>]) -> Json {
+        let number = |number: &u64| Json::Number(*number as u32);
+        Json::list(ranges.iter().map(|range| Json::list([number(range.start()), number(range.end())])))
     }
 
     /// The value with a line feed, as a command prints it.

@@ -2,6 +2,7 @@
 //!
 //! `syntax` has the text of instructions in one table, `help` the commands in another. `commands` has a module for each.
 
+mod advice;
 mod args;
 mod assemble;
 mod change;
@@ -34,7 +35,9 @@ pub fn answer(given: &[String], style: Style) -> Result<Outcome, Failure> {
         [name, rest @ ..] => (name.as_str(), rest),
     };
     match name {
-        "-h" | "--help" | "help" => return done(help::overview()),
+        "-h" | "--help" => return done(help::overview()),
+        "help" if rest.is_empty() => return done(help::overview()),
+        "help" => return answer(&[&rest[..1], &["--help".to_string()]].concat(), style),
         "-V" | "--version" => return done(format!("{}\n", help::VERSION)),
         "--man" => return done(manual::manual()),
         _ => {}
@@ -45,7 +48,12 @@ pub fn answer(given: &[String], style: Style) -> Result<Outcome, Failure> {
         return done(help::page(command));
     }
     let named = |failure: Failure| Failure { text: format!("{name}: {}", failure.text), ..failure };
-    args::parse(command, rest).and_then(|args| (command.run)(&args, style)).map_err(named)
+    let args = args::parse(command, rest).map_err(named)?;
+    match (command.run)(&args, style) {
+        // a refused image, for a program
+        Err(Failure { json: Some(json), status, .. }) if args.has("json") => Ok(Outcome::new(json.line(), status)),
+        outcome => outcome.map_err(named),
+    }
 }
 
 fn unknown(name: &str) -> Failure {

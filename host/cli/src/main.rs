@@ -2,6 +2,7 @@
 
 use cli::{answer, why, Failure, Outcome, Style};
 use std::env::args_os;
+use std::ffi::OsString;
 use std::io::{self, ErrorKind, Write};
 use std::process::ExitCode;
 
@@ -9,13 +10,16 @@ use std::process::ExitCode;
 const READER_GONE: u8 = 141;
 
 fn main() -> ExitCode {
-    // a name that is no UTF-8 is named as far as it can be, and not found
-    let given: Vec<String> = args_os().skip(1).map(|text| text.to_string_lossy().into_owned()).collect();
-    let status = match answer(&given, Style::of(&io::stdout())) {
+    let status = match given().and_then(|given| answer(&given, Style::of(&io::stdout()))) {
         Ok(outcome) => deliver(&outcome),
         Err(failure) => say(&failure),
     };
     ExitCode::from(status)
+}
+
+fn given() -> Result<Vec<String>, Failure> {
+    let not_text = |text: OsString| format!("'{}' is no UTF-8: another name would do", text.to_string_lossy()).into();
+    args_os().skip(1).map(|text| text.into_string().map_err(not_text)).collect()
 }
 
 /// If the reader goes away early nothing is said, as with any command.

@@ -5,50 +5,51 @@ use crate::style::Style;
 
 /// A line that is at fault, and where.
 #[derive(Clone, Debug, PartialEq, Eq)]
-struct Problem {
+pub struct Problem {
     /// From 1 on.
     line: usize,
     text: String,
     fault: Fault,
 }
 
-/// What is at fault in a text: the first lines, and how many more there are.
-#[derive(Clone, Debug, Default, PartialEq, Eq)]
-pub struct Problems {
-    first: Vec<Problem>,
-    more: usize,
-}
+/// What is at fault in a text, as far as it was looked at.
+pub type Problems = Vec<Problem>;
 
-/// How many problems are kept.
-const KEPT: usize = 10;
+/// So many problems are looked for.
+const MOST: usize = 10;
 
 /// The words of a text. A line has one instruction or more, with `;` between them, or none; `//` begins a comment up to the
 /// line's end, and one between `/*` and `*/` may go over lines.
 pub fn words(source: &str) -> Result<Vec<u32>, Problems> {
-    let (mut words, mut problems) = (Vec::new(), Problems::default());
-    let bare = without_comments(source);
-    for (number, (line, bare)) in (1..).zip(source.split('\n').zip(bare.split('\n'))) {
+    let (mut words, mut problems) = (Vec::new(), Vec::new());
+    let (bare, open) = without_comments(source);
+    let lines = source.split('\n').zip(bare.split('\n'));
+    for (number, (line, bare)) in (1..).zip(lines) {
         for (start, statement) in statements(bare) {
             match assemble(statement) {
                 Ok(word) => words.push(word),
-                Err(fault) => problems.add(number, line, Fault { at: start + fault.at, ..fault }),
+                Err(fault) => problems.push(Problem::new(number, line, Fault { at: start + fault.at, ..fault })),
+            }
+            if problems.len() == MOST {
+                return Err(problems);
             }
         }
     }
-    if problems.first.is_empty() {
+    problems.extend(open.map(|at| unclosed(source, at)));
+    if problems.is_empty() {
         Ok(words)
     } else {
         Err(problems)
     }
 }
 
-impl Problems {
-    fn add(&mut self, line: usize, text: &str, fault: Fault) {
-        match self.first.len() < KEPT {
-            true => self.first.push(Problem { line, text: text.to_string(), fault }),
-            false => self.more += 1,
-        }
-    }
+/// The problem of a comment that begins at a byte and has no end.
+fn unclosed(source: &str, at: usize) -> Problem {
+    let before = &source[..at];
+    let start = before.rfind('\n').map_or(0, |place| place + 1);
+    let line = source[start..].split('\n').next().unwrap_or("");
+    let fault = Fault { at: at - start, found: "'/*'".to_string(), expected: vec!["'*/' after it".to_string()] };
+    Problem::new(before.matches('\n').count() + 1, line, fault)
 }
 
 /// The parts between `;` that are not blank, and where each begins.
@@ -62,40 +63,44 @@ fn statements(line: &str) -> impl Iterator<Item = (usize, &str)> {
     parts.filter(|(_, part)| !part.trim().is_empty())
 }
 
-/// The text with blanks for each byte of a comment, so that all else stays where it is.
-fn without_comments(source: &str) -> String {
+/// The text with blanks for each byte of a comment, so that all else stays where it is, and where a comment begins that has no
+/// end.
+fn without_comments(source: &str) -> (String, Option<usize>) {
     let mut text = String::with_capacity(source.len());
-    let mut rest = source;
-    while let Some(start) = rest.find('/') {
-        let (before, comment) = rest.split_at(start);
-        text.push_str(before);
-        let length = comment_length(comment);
+    while let Some(start) = source[text.len()..].find('/') {
+        let start = text.len() + start;
+        text.push_str(&source[text.len()..start]);
+        let comment = &source[start..];
         let blank = |byte| if byte == b'\n' { '\n' } else { ' ' };
-        match length {
-            0 => text.push('/'),
-            _ => text.extend(comment.bytes().take(length).map(blank)),
+        match comment_length(comment) {
+            Some(0) => text.push('/'),
+            Some(length) => text.extend(comment.bytes().take(length).map(blank)),
+            None => {
+                text.extend(comment.bytes().map(blank));
+                return (text, Some(start));
+            }
         }
-        rest = &comment[length.max(1)..];
     }
-    text + rest
+    text.push_str(&source[text.len()..]);
+    (text, None)
 }
 
-/// How many bytes the comment has that begins here; 0 if none does. One that has no end is none.
-fn comment_length(text: &str) -> usize {
+/// How many bytes the comment has that begins here, 0 if none does; none if it has no end.
+fn comment_length(text: &str) -> Option<usize> {
     if text.starts_with("//") {
-        return text.find('\n').unwrap_or(text.len());
+        return Some(text.find('\n').unwrap_or(text.len()));
     }
-    match text.strip_prefix("/*").and_then(|rest| rest.find("*/")) {
-        Some(length) => length + 4,
-        None => 0,
+    match text.strip_prefix("/*") {
+        Some(rest) => rest.find("*/").map(|length| length + 4),
+        None => Some(0),
     }
 }
 
 /// Each problem in three lines: where and what, the line, a mark below the place.
-pub fn report(name: &str, problems: &Problems, style: Style) -> String {
-    let mut lines: Vec<String> = problems.first.iter().map(|problem| problem.report(name, style)).collect();
-    if problems.more > 0 {
-        lines.push(format!("and {} more", problems.more));
+pub fn report(name: &str, problems: &[Problem], style: Style) -> String {
+    let mut lines: Vec<String> = problems.iter().map(|problem| problem.report(name, style)).collect();
+    if problems.len() == MOST {
+        lines.push(format!("{name}: what follows was not looked at"));
     }
     lines.join("\n")
 }
@@ -105,6 +110,10 @@ const BEFORE: usize = 60;
 const SHOWN: usize = 120;
 
 impl Problem {
+    fn new(line: usize, text: &str, fault: Fault) -> Problem {
+        Problem { line, text: text.to_string(), fault }
+    }
+
     fn report(&self, name: &str, style: Style) -> String {
         let column = self.text[..self.fault.at].chars().count();
         let left_out = if column < SHOWN - 1 { 0 } else { column - BEFORE };
@@ -138,7 +147,7 @@ kernel.s:2:24: expected p0.b to p15.b, found 'q1.b'
 kernel.s:3:3: expected an instruction (setffr?), found 'setfr'
       setfr
       ^
-kernel.s:4:8: expected the end of the instruction, found '/'
+kernel.s:4:8: expected '*/' after it, found '/*'
     setffr /* no end
            ^";
         assert_eq!(report, expected);
@@ -151,6 +160,6 @@ kernel.s:4:8: expected the end of the instruction, found '/'
         let expected = format!("    {}q\n    {}^", ";".repeat(BEFORE), " ".repeat(BEFORE));
         assert!(shown.starts_with("kernel.s:1:1001: ") && shown.ends_with(&expected), "{shown}");
         let many = report("kernel.s", &words(&"q;".repeat(100_000)).unwrap_err(), Style::PLAIN);
-        assert!(many.ends_with("\nand 99990 more") && many.len() < 3_000, "{many}");
+        assert!(many.ends_with("\nkernel.s: what follows was not looked at") && many.len() < 3_000, "{many}");
     }
 }

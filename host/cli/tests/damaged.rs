@@ -1,19 +1,14 @@
 //! Texts that are damaged at random: each is refused with a place within it, or is an instruction that only blanks and large
 //! letters set apart from what is shown for its word. None panics.
 
+mod common;
+
 use cli::{answer, assemble, disassemble, Aliases, Style};
+use common::Random;
 
-struct Random(u64);
-
-impl Random {
-    fn below(&mut self, bound: usize) -> usize {
-        self.0 = self.0.wrapping_mul(6_364_136_223_846_793_005).wrapping_add(1_442_695_040_888_963_407);
-        (self.0 >> 33) as usize % bound
-    }
-
-    fn of<'a, T>(&mut self, items: &'a [T]) -> &'a T {
-        &items[self.below(items.len())]
-    }
+/// One of some.
+fn of<'a, T>(items: &'a [T], random: &mut Random) -> &'a T {
+    &items[random.below(items.len() as u64) as usize]
 }
 
 const STRANGE: [char; 24] = [
@@ -25,7 +20,7 @@ fn texts(random: &mut Random) -> Vec<String> {
     let mut texts = Vec::new();
     while texts.len() < 2_000 {
         let word = 0x2500_0000 | random.below(1 << 24) as u32;
-        let aliases = *random.of(&[Aliases::Off, Aliases::On]);
+        let aliases = *of(&[Aliases::Off, Aliases::On], random);
         texts.extend(disassemble(word, aliases));
     }
     texts
@@ -34,14 +29,14 @@ fn texts(random: &mut Random) -> Vec<String> {
 fn damaged(text: &str, other: &str, random: &mut Random) -> String {
     let mut chars: Vec<char> = text.chars().collect();
     for _ in 0..=random.below(3) {
-        let at = random.below(chars.len() + 1);
+        let at = random.below(chars.len() as u64 + 1) as usize;
         match random.below(7) {
-            0 => chars.insert(at, *random.of(&STRANGE)),
+            0 => chars.insert(at, *of(&STRANGE, random)),
             1 => chars.truncate(at),
             2 => chars.extend(other.chars().skip(at)),
             _ if at == chars.len() => chars.push(' '),
             3 => drop(chars.remove(at)),
-            4 => chars[at] = *random.of(&STRANGE),
+            4 => chars[at] = *of(&STRANGE, random),
             5 => chars.swap(at, 0),
             _ => chars[at] = chars[at].to_ascii_uppercase(),
         }
@@ -72,7 +67,7 @@ fn damaged_lines() {
     let texts = texts(&mut random);
     let (mut taken, mut refused) = (0, 0);
     for _ in 0..200_000 {
-        let (text, other) = (random.of(&texts).clone(), random.of(&texts).clone());
+        let (text, other) = (of(&texts, &mut random).clone(), of(&texts, &mut random).clone());
         let line = damaged(&text, &other, &mut random);
         match assemble(&line) {
             Ok(word) => {

@@ -1,68 +1,58 @@
 //! Images at random: what is drawn of a state is what the library counts in it, a run prints what the library does, and no
 //! command panics, whatever the image is.
 
+mod common;
+
 use cli::{answer, Style};
+use common::Random;
 use plokamyr::{text, write, Flags, Predicate, Reply, State, IMAGE_MAX};
 use std::env::temp_dir;
 use std::{fs, process};
 
-struct Random(u64);
-
-impl Random {
-    fn next(&mut self) -> u64 {
-        self.0 = self.0.wrapping_mul(6_364_136_223_846_793_005).wrapping_add(1_442_695_040_888_963_407);
-        let high = self.0 >> 32;
-        self.0 = self.0.wrapping_mul(6_364_136_223_846_793_005).wrapping_add(1_442_695_040_888_963_407);
-        high << 32 | self.0 >> 32
-    }
-
-    fn below(&mut self, bound: u64) -> u64 {
-        self.next() % bound
-    }
-
-    /// Full, empty, a run from bit 0, a counter's bits, or any bits, below a length.
-    fn predicate(&mut self, length: u64) -> Predicate {
-        let limit = match self.below(4) {
-            0 => self.below(length + 1),
-            _ => length,
+/// Full, empty, a run from bit 0, a counter's bits, or any bits, below a length.
+fn predicate(random: &mut Random, length: u64) -> Predicate {
+    let limit = match random.below(4) {
+        0 => random.below(length + 1),
+        _ => length,
+    };
+    let kind = random.below(4);
+    let mut predicate = Predicate::default();
+    for bit in 0..limit {
+        let set = match kind {
+            0 => true,
+            1 => false,
+            2 => bit < 16 && random.below(3) == 0,
+            _ => random.below(2) == 0,
         };
-        let kind = self.below(4);
-        let mut predicate = Predicate::default();
-        for bit in 0..limit {
-            let set = match kind {
-                0 => true,
-                1 => false,
-                2 => bit < 16 && self.below(3) == 0,
-                _ => self.below(2) == 0,
-            };
-            predicate.words[bit as usize / 64] |= u64::from(set) << (bit % 64);
-        }
-        predicate
+        predicate.words[bit as usize / 64] |= u64::from(set) << (bit % 64);
     }
+    predicate
+}
 
-    fn state(&mut self) -> State {
-        let mut state = State::new(128 << self.below(5), self.below(4) as u8);
-        let length = state.vl() / 8;
-        state.access = self.below(8) > 0;
-        state.flags =
-            Flags { n: self.below(2) == 0, z: self.below(2) == 0, c: self.below(2) == 0, v: self.below(2) == 0 };
-        state.x = [(); 31].map(|()| self.next() >> self.below(64));
-        state.set_all_p([(); 16].map(|()| self.predicate(length)));
-        state.ffr = self.predicate(length);
-        state
-    }
+fn state(random: &mut Random) -> State {
+    let mut state = State::new(128 << random.below(5), random.below(4) as u8);
+    let length = state.vl() / 8;
+    state.access = random.below(8) > 0;
+    let [n, z, c, v] = [(); 4].map(|()| random.below(2) == 0);
+    state.flags = Flags { n, z, c, v };
+    state.x = [(); 31].map(|()| random.next() >> random.below(64));
+    state.set_all_p([(); 16].map(|()| predicate(random, length)));
+    state.ffr = predicate(random, length);
+    state
+}
 
-    /// Mostly instructions; some foreign, some undefined.
-    fn words(&mut self) -> Vec<u32> {
-        let count = self.below(20);
-        let any = |random: &mut Random| 0x2500_0000 | random.below(1 << 24) as u32;
-        let mut words: Vec<u32> = (0..count).map(|_| any(self)).collect();
-        for word in &mut words {
-            while self.below(50) > 0 && plokamyr::decode(*word).is_err() {
-                *word = any(self);
-            }
+/// Mostly instructions; some foreign, some undefined.
+fn words(random: &mut Random) -> Vec<u32> {
+    let count = random.below(20);
+    (0..count).map(|_| word(random)).collect()
+}
+
+fn word(random: &mut Random) -> u32 {
+    loop {
+        let word = 0x2500_0000 | random.below(1 << 24) as u32;
+        if random.below(50) == 0 || plokamyr::decode(word).is_ok() {
+            return word;
         }
-        words
     }
 }
 
@@ -108,7 +98,7 @@ fn drawn(shown: &str) -> Vec<(String, usize, usize)> {
 fn states_are_shown_as_the_library_counts_them() {
     let mut random = Random(1);
     for _ in 0..200 {
-        let state = random.state();
+        let state = state(&mut random);
         let bytes = image(&state, &[]);
         for (size, letter) in ['b', 'h', 's', 'd'].into_iter().enumerate() {
             let (shown, status) = asked(&format!("show FILE --size {letter}"), &bytes);
@@ -132,7 +122,7 @@ fn states_are_shown_as_the_library_counts_them() {
 fn runs_print_what_the_library_does() {
     let mut random = Random(2);
     for _ in 0..300 {
-        let (mut state, words) = (random.state(), random.words());
+        let (mut state, words) = (state(&mut random), words(&mut random));
         let bytes = image(&state, &words);
         let (printed, status) = asked("run FILE", &bytes);
         assert_eq!(printed.as_bytes(), text(&bytes));
@@ -148,11 +138,55 @@ fn runs_print_what_the_library_does() {
     }
 }
 
+/// The registers that a state differs in from another.
+fn differing(before: &State, after: &State) -> Vec<String> {
+    let x = (0..31).filter(|number| before.x[*number] != after.x[*number]).map(|number| format!("x{number}"));
+    let p = (0..16).filter(|number| before.p()[*number] != after.p()[*number]).map(|number| format!("p{number}"));
+    let ffr = (before.ffr != after.ffr).then(|| "ffr".to_string());
+    let nzcv = (before.flags != after.flags).then(|| "nzcv".to_string());
+    x.chain(p).chain(ffr).chain(nzcv).collect()
+}
+
+/// A WHILE into a counter, up or down, of two vectors or four, or any other word.
+fn counting(random: &mut Random) -> u32 {
+    match random.below(4) {
+        0 => word(random),
+        _ => 0x2520_4010 | random.next() as u32 & 0x00DF_2FFF | 0x10,
+    }
+}
+
+#[test]
+fn a_trace_names_the_registers_that_change() {
+    let mut random = Random(4);
+    let mut named = 0;
+    for _ in 0..2_000 {
+        let mut state = state(&mut random);
+        (state.level, state.access) = (3, true);
+        state.x = [(); 31].map(|()| random.below(300));
+        // twice into the same register, so that a counter stands there before
+        let word = counting(&mut random);
+        let _ = state.step(counting(&mut random) & !7 | word & 7);
+        let (json, _) = asked("run FILE --trace --json", &image(&state, &[word]));
+        let before = state.clone();
+        let _ = state.step(word);
+        let registers = json.split("\"register\": \"").skip(1).map(|rest| rest.split(['"', '.']).next().unwrap());
+        let registers: Vec<String> = registers.map(|name| name.replace("pn", "p")).collect();
+        assert_eq!(registers, differing(&before, &state), "{word:08x} {json}");
+        // what is said of before and after is not the same
+        assert!(json.split("\"before\": ").skip(1).all(|rest| {
+            let (before, after) = rest.split_once(", \"after\": ").unwrap();
+            before != after.split('}').next().unwrap()
+        }));
+        named += registers.len();
+    }
+    assert!(named > 2_000, "{named}");
+}
+
 #[test]
 fn damaged_images() {
     let mut random = Random(3);
     for _ in 0..2_000 {
-        let mut bytes = image(&random.state(), &random.words());
+        let mut bytes = image(&state(&mut random), &words(&mut random));
         match random.below(4) {
             0 => bytes.truncate(random.below(bytes.len() as u64 + 1) as usize),
             1 => bytes.extend([(); 3].map(|()| random.next() as u8)),

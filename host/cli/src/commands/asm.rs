@@ -1,61 +1,69 @@
 use crate::args::Args;
 use crate::assemble::begins_instruction;
-use crate::failure::{why, Failure, Outcome, DONE, FAILED};
-use crate::image::named;
+use crate::failure::{Failure, Outcome, DONE, FAILED};
+use crate::image::{contents, named};
 use crate::source::{report, words};
 use crate::style::Style;
-use std::io::Read;
+use crate::words::grouped;
+use std::io;
 use std::path::Path;
-use std::{fs, io};
 
 pub fn command(args: &Args, _: Style) -> Result<Outcome, Failure> {
-    let (name, source) = match args.operands.as_slice() {
+    let words = match args.operands.as_slice() {
         [] => return Err("TEXT or FILE.s is missing (try --help)".into()),
-        [path] if is_file(path) => (named(path), source(path)?),
-        texts => ("text".to_string(), joined(texts)?),
+        [path] if is_file(path) => assembled(&named(path), &source(path)?)?,
+        texts => of_texts(texts)?,
     };
-    let lines: String = assembled(&name, &source)?.iter().map(|word| format!("{word:08x}\n")).collect();
+    let lines: String = words.iter().map(|word| format!("{word:08x}\n")).collect();
     Ok(Outcome::new(lines, DONE))
 }
 
 /// The words of a source called `name`.
 pub fn assembled(name: &str, source: &str) -> Result<Vec<u32>, Failure> {
     let style = Style::of(&io::stderr());
-    words(source).map_err(|problems| Failure { text: report(name, &problems, style), status: FAILED })
+    words(source).map_err(|problems| Failure { text: report(name, &problems, style), status: FAILED, json: None })
 }
 
-/// What begins no instruction names a file if there is one, or if it is one word that ends in `.s`; `-` is standard input.
+/// One word that ends in `.s` names a file, which no instruction does; what begins no instruction names one if it is there;
+/// `-` is standard input.
 fn is_file(text: &str) -> bool {
     let named = text.ends_with(".s") && !text.contains(char::is_whitespace);
-    text == "-" || !begins_instruction(text) && (named || Path::new(text).exists())
+    text == "-" || named || !begins_instruction(text) && Path::new(text).exists()
 }
+
+/// More than any source needs: all words that there are, with their texts, take less.
+const MOST: usize = 1 << 28;
 
 /// A file's text. Bytes that are no UTF-8 are no instruction either, and are refused in their place.
 pub fn source(path: &str) -> Result<String, Failure> {
-    let mut bytes = Vec::new();
-    let read = match path {
-        "-" => io::stdin().lock().read_to_end(&mut bytes).map(|_| bytes),
-        _ => fs::read(path),
-    };
-    match read {
-        Ok(bytes) => Ok(String::from_utf8_lossy(&bytes).into_owned()),
-        Err(error) => Err(format!("{} cannot be read: {}", named(path), why(&error)).into()),
+    let bytes = contents(path, MOST)?;
+    if bytes.len() == MOST {
+        return Err(format!("{} is longer than {} bytes", named(path), grouped(MOST as u64)).into());
     }
+    Ok(String::from_utf8_lossy(&bytes).into_owned())
+}
+
+/// The words of arguments. Each that begins an instruction has one.
+fn of_texts(texts: &[String]) -> Result<Vec<u32>, Failure> {
+    let lines = joined(texts);
+    for (place, line) in (1..).zip(&lines) {
+        if words(line).is_ok_and(|words| words.is_empty()) {
+            return Err(format!("text {place} is '{line}': an instruction would do (try --help)").into());
+        }
+    }
+    assembled("text", &lines.join("\n"))
 }
 
 /// Arguments as lines. An instruction that a shell has taken apart at its blanks is put together again: what is one word and
-/// begins no instruction goes on with the argument before. A blank one is no instruction.
-fn joined(texts: &[String]) -> Result<String, Failure> {
+/// begins no instruction goes on with the argument before.
+fn joined(texts: &[String]) -> Vec<String> {
     let mut lines: Vec<String> = Vec::new();
     for text in texts {
-        let goes_on = !text.contains(char::is_whitespace) && !begins_instruction(text);
+        let goes_on = !text.is_empty() && !text.contains(char::is_whitespace) && !begins_instruction(text);
         match lines.last_mut() {
-            Some(line) if goes_on && !text.is_empty() => *line += &format!(" {text}"),
+            Some(line) if goes_on => *line += &format!(" {text}"),
             _ => lines.push(text.clone()),
         }
     }
-    match lines.iter().position(|line| line.trim().is_empty()) {
-        Some(place) => Err(format!("text {} is blank: an instruction would do (try --help)", place + 1).into()),
-        None => Ok(lines.join("\n")),
-    }
+    lines
 }

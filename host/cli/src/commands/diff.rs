@@ -8,6 +8,7 @@ use crate::style::Style;
 
 pub fn command(args: &Args, style: Style) -> Result<Outcome, Failure> {
     let (one, other) = match args.operands.as_slice() {
+        [one, other] if one == "-" && other == "-" => return Err("standard input has one image (try --help)".into()),
         [one, other] => (load(one)?, load(other)?),
         _ => return Err("two images are compared (try --help)".into()),
     };
@@ -15,12 +16,8 @@ pub fn command(args: &Args, style: Style) -> Result<Outcome, Failure> {
     let words = differing(&one.words, &other.words);
     let alike = registers.is_empty() && words.is_empty();
     let status = if alike { DONE } else { REFUSED };
-    if args.has("json") {
-        return Ok(Outcome::new(json(&registers, &words).line(), status));
-    }
-    let mut text: String = registers.iter().map(|change| format!("{change}\n")).collect();
-    text.extend(words.iter().map(|word| word.line(style)));
-    Ok(Outcome::new(text, status))
+    let lines = registers.iter().map(|change| format!("{change}\n")).chain(words.iter().map(|word| word.line(style)));
+    Ok(Outcome::either(args, status, || json(&registers, &words), || lines.collect()))
 }
 
 /// A word that one image has and the other has not.
@@ -43,7 +40,7 @@ impl Word {
             ("in", Json::text(if self.added { "second" } else { "first" })),
             ("number", Json::Number(self.number as u32)),
             ("word", Json::text(format!("{:08x}", self.word))),
-            ("text", Json::text(dis::text(self.word))),
+            ("text", dis::text_json(self.word)),
         ])
     }
 }

@@ -1,38 +1,37 @@
 use crate::args::Args;
+use crate::commands::explain::said;
 use crate::disassemble::{disassemble, level, Aliases};
 use crate::failure::{Failure, Outcome, DONE, REFUSED};
 use crate::image::load;
 use crate::json::Json;
 use crate::style::Style;
 use plokamyr::Reply;
+use std::path::Path;
 
 pub fn command(args: &Args, style: Style) -> Result<Outcome, Failure> {
     let words = words(args)?;
     let aliases = if args.has("aliases") { Aliases::On } else { Aliases::Off };
     let all_ours = words.iter().all(|word| disassemble(*word, aliases).is_ok());
+    let json = || Json::list(words.iter().map(|word| json(*word, aliases)));
     let status = if all_ours { DONE } else { REFUSED };
-    if args.has("json") {
-        return Ok(Outcome::new(Json::list(words.iter().map(|word| json(*word, aliases))).line(), status));
-    }
-    Ok(Outcome::new(lines(&words, aliases, style), status))
+    Ok(Outcome::either(args, status, json, || lines(&words, aliases, style)))
 }
 
 fn words(args: &Args) -> Result<Vec<u32>, Failure> {
     match args.operands.as_slice() {
         [] => Err("WORD or FILE is missing (try --help)".into()),
-        [path] if word(path).is_none() => Ok(load(path)?.words),
+        [path] if word(path).is_none() && (path == "-" || Path::new(path).exists()) => Ok(load(path)?.words),
         texts => {
-            let read = |text: &String| {
-                word(text).ok_or_else(|| format!("'{text}' is no word: up to eight hexadecimal digits would do").into())
-            };
-            texts.iter().map(read).collect()
+            let no_word =
+                |text| format!("'{text}' is neither a file nor a word of up to eight hexadecimal digits").into();
+            texts.iter().map(|text| word(text).ok_or_else(|| no_word(text))).collect()
         }
     }
 }
 
 /// A word of up to eight hexadecimal digits, with or without 0x.
 fn word(text: &str) -> Option<u32> {
-    let digits = text.strip_prefix("0x").unwrap_or(text);
+    let digits = text.strip_prefix("0x").or_else(|| text.strip_prefix("0X")).unwrap_or(text);
     let plain = digits.len() <= 8 && digits.chars().all(|digit| digit.is_ascii_hexdigit());
     u32::from_str_radix(digits, 16).ok().filter(|_| plain)
 }
@@ -47,24 +46,26 @@ fn lines(words: &[u32], aliases: Aliases, style: Style) -> String {
     words.iter().zip(&texts).map(line).collect()
 }
 
-/// What a word is that is none of ours.
+/// What a word is that is none of ours, and why.
 fn stranger(refusal: Reply) -> String {
     match refusal {
-        Reply::ForeignWord => "foreign: its bits 31:24 are not 00100101".to_string(),
-        Reply::UnsupportedForm => {
-            "undefined here: its bits 31:24 are 00100101, but its form is none of ours".to_string()
-        }
-        other => other.to_string(),
+        Reply::UnsupportedForm => format!("undefined here: {}", said(refusal)),
+        _ => said(refusal).trim_start_matches("word is ").to_string(),
     }
 }
 
-/// A word's instruction, or in a word why it has none.
+/// A word's instruction, or what it is if it has none.
 pub fn text(word: u32) -> String {
     match disassemble(word, Aliases::Off) {
         Ok(text) => text,
         Err(Reply::ForeignWord) => "foreign".to_string(),
         Err(_) => "undefined".to_string(),
     }
+}
+
+/// A word's instruction; null if it has none.
+pub fn text_json(word: u32) -> Json {
+    disassemble(word, Aliases::Off).map_or(Json::Null, Json::text)
 }
 
 fn json(word: u32, aliases: Aliases) -> Json {

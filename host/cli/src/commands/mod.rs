@@ -29,10 +29,9 @@ fn size(args: &Args) -> Result<u32, Failure> {
     size_of(letter).ok_or_else(|| format!("--size is '{letter}': b, h, s or d would do").into())
 }
 
-/// The number that an option gives, called `what` in messages.
-fn number(args: &Args, key: &str, what: &str) -> Result<Option<u64>, Failure> {
-    let read = |text: &str| {
-        natural(text).ok_or_else(|| format!("{what} is '{text}': a number up to {} would do", u64::MAX).into())
-    };
+/// The number that an option gives; `what` says what would do.
+fn number(args: &Args, key: &'static str, what: &str) -> Result<Option<u64>, Failure> {
+    let name = if key.len() == 1 { format!("-{key}") } else { format!("--{key}") };
+    let read = |text: &str| natural(text).ok_or_else(|| format!("{name} is '{text}': {what} would do").into());
     args.value(key).map(read).transpose()
 }

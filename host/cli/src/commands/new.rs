@@ -14,7 +14,7 @@ pub fn command(args: &Args, _: Style) -> Result<Outcome, Failure> {
     let state = state(args)?;
     let words = match args.operands.as_slice() {
         [] => Vec::new(),
-        _ => kernel(super::only(args, "KERNEL.s")?)?,
+        _ => kernel(super::only(args, "KERNEL.s")?, path)?,
     };
     let mut image = vec![0; IMAGE_MAX];
     let written = write(&state, &words, &mut image);
@@ -29,7 +29,11 @@ pub fn command(args: &Args, _: Style) -> Result<Outcome, Failure> {
     Ok(Outcome::new("", DONE))
 }
 
-fn kernel(path: &str) -> Result<Vec<u32>, Failure> {
+fn kernel(path: &str, image: &str) -> Result<Vec<u32>, Failure> {
+    let place = |path| fs::canonicalize(path).ok();
+    if path != "-" && place(path).is_some() && place(path) == place(image) {
+        return Err(format!("-o is {}: another file than the kernel would do", named(image)).into());
+    }
     let words = assembled(&named(path), &source(path)?)?;
     if words.len() > WORDS_MAX {
         let most = grouped(WORDS_MAX as u64);
@@ -47,12 +51,10 @@ fn state(args: &Args) -> Result<State, Failure> {
         allowed("--level", args.value("level").unwrap_or("3"), &levels(), |level| State::new(128, byte(level)))?;
     let mut state = State::new(vl, byte(level));
     state.access = !args.has("no-access");
-    for text in args.values("x") {
-        let (number, value) = general(text)?;
+    for (number, value) in once("X", args.values("x").into_iter().map(general))? {
         state.x[number] = value;
     }
-    for text in args.values("p") {
-        let (number, value) = lanes_of(text, vl)?;
+    for (number, value) in once("P", args.values("p").into_iter().map(|text| lanes_of(text, vl)))? {
         state.set_p(number, value);
     }
     if let Some(text) = args.value("ffr") {
@@ -62,6 +64,19 @@ fn state(args: &Args) -> Result<State, Failure> {
         state.flags = flags(text)?;
     }
     Ok(state)
+}
+
+/// What registers are given, each at most once.
+fn once<T>(name: &str, given: impl Iterator<Item = Result<(usize, T), Failure>>) -> Result<Vec<(usize, T)>, Failure> {
+    let mut all: Vec<(usize, T)> = Vec::new();
+    for register in given {
+        let (number, value) = register?;
+        if all.iter().any(|(known, _)| *known == number) {
+            return Err(format!("{name}{number} is given twice").into());
+        }
+        all.push((number, value));
+    }
+    Ok(all)
 }
 
 /// A level; one past a byte is as little allowed as the highest.
@@ -76,12 +91,12 @@ fn is_legal(state: State) -> bool {
 }
 
 /// The vector lengths that the library takes.
-fn lengths() -> String {
+pub fn lengths() -> String {
     numbers(&(0..=4096).filter(|vl| is_legal(State::new(u64::from(*vl), 0))).collect::<Vec<_>>())
 }
 
 /// The levels that it takes.
-fn levels() -> String {
+pub fn levels() -> String {
     numbers(&(0..=255).filter(|level| is_legal(State::new(128, *level as u8))).collect::<Vec<_>>())
 }
 

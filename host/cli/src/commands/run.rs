@@ -1,7 +1,7 @@
 use crate::args::Args;
 use crate::change::{changes, Change, View};
 use crate::commands::dis;
-use crate::failure::{Failure, Outcome, DONE, IMAGE_REFUSED, REFUSED};
+use crate::failure::{status_of, Failure, Outcome, IMAGE_REFUSED};
 use crate::image::{bytes, image};
 use crate::json::Json;
 use crate::style::Style;
@@ -15,18 +15,20 @@ pub fn command(args: &Args, style: Style) -> Result<Outcome, Failure> {
     let bytes = bytes(path)?;
     let image = match image(&bytes) {
         Ok(image) => image,
-        Err(reply) if args.has("json") => return Ok(Outcome::new(refused(reply).line(), IMAGE_REFUSED)),
-        Err(_) => return Ok(Outcome::new(text(&bytes), IMAGE_REFUSED)),
+        Err(reply) => return Ok(Outcome::either(args, IMAGE_REFUSED, || json(reply, &[], false), || lines(&bytes))),
     };
-    let refused = image.state.clone().run(&image.words).refused;
-    let status = if refused == Reply::Done { DONE } else { REFUSED };
-    let (trace, as_json) = (args.has("trace"), args.has("json"));
-    if !trace && !as_json {
+    let status = status_of(image.state.clone().run(&image.words).refused);
+    let trace = args.has("trace");
+    if !trace && !args.has("json") {
         return Ok(Outcome::new(text(&bytes), status));
     }
     let steps = steps(image.state, &image.words);
-    let answer = if as_json { json(&steps, trace).line() } else { traced(&text(&bytes), &steps, style) };
-    Ok(Outcome::new(answer, status))
+    Ok(Outcome::either(args, status, || json(Reply::Done, &steps, trace), || traced(&lines(&bytes), &steps, style)))
+}
+
+/// What the program prints.
+fn lines(image: &[u8]) -> String {
+    String::from_utf8_lossy(&text(image)).into_owned()
 }
 
 /// A word that was stepped.
@@ -53,17 +55,17 @@ fn steps(mut state: State, words: &[u32]) -> Vec<Step> {
 }
 
 /// The program's lines, each with its instruction and what that changed, or why it was refused.
-fn traced(lines: &[u8], steps: &[Step], style: Style) -> String {
+fn traced(lines: &str, steps: &[Step], style: Style) -> String {
     let texts: Vec<String> = steps.iter().map(|step| dis::text(step.word)).collect();
-    let width = texts.iter().map(String::len).max().unwrap_or(0);
-    let lines = String::from_utf8_lossy(lines);
+    let wide = texts.iter().map(String::len).max().unwrap_or(0);
+    let long = lines.lines().map(str::len).max().unwrap_or(0);
     let mut out = String::new();
     for (place, line) in lines.lines().enumerate() {
         let more = match (steps.get(place), texts.get(place)) {
-            (Some(step), Some(text)) => format!("  {text:<width$}  {}", effect(step, style)),
+            (Some(step), Some(text)) => format!("  {text:<wide$}  {}", effect(step, style)),
             _ => String::new(),
         };
-        out += format!("{line}{more}").trim_end();
+        out += format!("{line:<long$}{more}").trim_end();
         out.push('\n');
     }
     out
@@ -76,14 +78,11 @@ fn effect(step: &Step, style: Style) -> String {
     }
 }
 
-fn refused(reply: Reply) -> Json {
-    Json::Object(vec![("reply", Json::Number(reply.number())), ("words", Json::list([])), ("done", Json::Number(0))])
-}
-
-fn json(steps: &[Step], trace: bool) -> Json {
+fn json(reply: Reply, steps: &[Step], trace: bool) -> Json {
     let done = steps.iter().filter(|step| step.reply == Reply::Done).count();
     let words = (0..).zip(steps).map(|(number, step)| step_json(number, step, trace));
-    Json::Object(vec![("reply", Json::Number(0)), ("words", Json::list(words)), ("done", Json::Number(done as u32))])
+    let reply = ("reply", Json::Number(reply.number()));
+    Json::Object(vec![reply, ("words", Json::list(words)), ("done", Json::Number(done as u32))])
 }
 
 fn step_json(number: u32, step: &Step, trace: bool) -> Json {
@@ -94,7 +93,7 @@ fn step_json(number: u32, step: &Step, trace: bool) -> Json {
         ("nzcv", Json::text(step.flags)),
     ];
     if trace {
-        fields.push(("text", Json::text(dis::text(step.word))));
+        fields.push(("text", dis::text_json(step.word)));
         fields.push(("changes", Json::list(step.changes.iter().map(Change::json))));
     }
     Json::Object(fields)

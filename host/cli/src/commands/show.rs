@@ -1,6 +1,6 @@
 use crate::args::Args;
 use crate::dump::{dump, json};
-use crate::failure::{Failure, Outcome, DONE, REFUSED};
+use crate::failure::{status_of, Failure, Outcome};
 use crate::image::{load, named, Image};
 use crate::json::Json;
 use crate::style::Style;
@@ -10,7 +10,7 @@ use plokamyr::Reply;
 pub fn command(args: &Args, style: Style) -> Result<Outcome, Failure> {
     let path = super::only(args, "FILE")?;
     let size = super::size(args)?;
-    let after = super::number(args, "after", "--after")?.unwrap_or(0);
+    let after = super::number(args, "after", "a number of words")?.unwrap_or(0);
     let mut image = load(path)?;
     let words = image.words.len();
     if after > words as u64 {
@@ -18,11 +18,9 @@ pub fn command(args: &Args, style: Style) -> Result<Outcome, Failure> {
         return Err(format!("--after is {after}: {has}, so that 0 to {words} would do").into());
     }
     let (done, refused) = stepped(&mut image, after as usize);
-    let status = if refused == Reply::Done { DONE } else { REFUSED };
-    if args.has("json") {
-        return Ok(Outcome::new(with_steps(json(&image.state, size), done, refused).line(), status));
-    }
-    Ok(Outcome::new(head(done, words, refused, args.has("after")) + &dump(&image.state, size, style), status))
+    let json = || with_steps(json(&image.state, size), done, refused);
+    let text = || head(done, words, refused, args.has("after")) + &dump(&image.state, size, style);
+    Ok(Outcome::either(args, status_of(refused), json, text))
 }
 
 /// Steps words; how many are done, and the reply to the one after them if it was refused.

@@ -1,7 +1,7 @@
 use crate::args::Args;
 use crate::commands::explain::said;
 use crate::dump::{dump, json};
-use crate::failure::{Failure, Outcome, DONE, REFUSED};
+use crate::failure::{status_of, Failure, Outcome};
 use crate::image::load;
 use crate::json::Json;
 use crate::style::Style;
@@ -12,42 +12,43 @@ use std::ops::RangeInclusive;
 pub fn command(args: &Args, style: Style) -> Result<Outcome, Failure> {
     let path = super::only(args, "FILE")?;
     let size = super::size(args)?;
-    let mut registers = [0; 4];
-    for (place, key) in ["n", "m", "d", "k"].into_iter().enumerate() {
-        let number =
-            super::number(args, key, &format!("-{key}"))?.ok_or_else(|| format!("-{key} is missing (try --help)"))?;
-        // a number past 32 bits is past every register, as the largest of them is
-        registers[place] = u32::try_from(number).unwrap_or(u32::MAX);
-    }
-    let budget = super::number(args, "budget", "--budget")?.unwrap_or(u64::MAX);
+    let registers = [register(args, "n")?, register(args, "m")?, register(args, "d")?, register(args, "k")?];
+    let budget = super::number(args, "budget", "a number of instructions")?.unwrap_or(u64::MAX);
     let image = load(path)?;
     let (walked, list) = walked(&image.state, size, registers, budget);
-    let status = if walked.reply == Reply::Done { DONE } else { REFUSED };
     let positions = runs(list[..walked.visited].iter().copied());
-    if args.has("json") {
-        let fields = vec![
-            ("reply", Json::Number(walked.reply.number())),
-            ("count", Json::text(walked.count)),
-            ("visited", Json::text(walked.visited)),
-            ("positions", positions_json(&positions)),
-            ("state", json(&walked.state, size)),
-        ];
-        return Ok(Outcome::new(Json::Object(fields).line(), status));
-    }
-    let head = [
-        format!("reply {}: {}{}\n", walked.reply.number(), said(walked.reply), kept(walked.reply)),
-        format!("{} executed\n", counted(walked.count, "instruction")),
-        format!("{} visited: {}\n", counted(walked.visited as u64, "position"), shortened(&positions)),
-    ];
-    Ok(Outcome::new(head.concat() + &dump(&walked.state, size, style), status))
+    let text = || head(&walked, &positions) + &dump(&walked.state, size, style);
+    Ok(Outcome::either(args, status_of(walked.reply), || answer(&walked, &positions, size), text))
 }
 
-/// Why a list is too short here.
-fn kept(reply: Reply) -> String {
-    match reply {
-        Reply::ListTooShort => format!(", of which {} are kept here", grouped(PLACES as u64)),
+/// A register's number; past 32 bits it is past every register, as the largest of them is.
+fn register(args: &Args, key: &'static str) -> Result<u32, Failure> {
+    let number = super::number(args, key, "the number of a register")?;
+    let number = number.ok_or_else(|| format!("-{key} is missing (try --help)"))?;
+    Ok(u32::try_from(number).unwrap_or(u32::MAX))
+}
+
+fn head(walked: &Walked, positions: &[RangeInclusive<u64>]) -> String {
+    let most = match walked.reply {
+        Reply::ListTooShort => format!("; this command keeps at most {}", grouped(PLACES as u64)),
         _ => String::new(),
-    }
+    };
+    let lines = [
+        format!("reply {}: {}{most}\n", walked.reply.number(), said(walked.reply)),
+        format!("{} executed\n", counted(walked.count, "instruction")),
+        format!("{} visited: {}\n", counted(walked.visited as u64, "position"), shortened(positions)),
+    ];
+    lines.concat()
+}
+
+fn answer(walked: &Walked, positions: &[RangeInclusive<u64>], size: u32) -> Json {
+    Json::Object(vec![
+        ("reply", Json::Number(walked.reply.number())),
+        ("count", Json::text(walked.count)),
+        ("visited", Json::text(walked.visited)),
+        ("positions", positions_json(positions)),
+        ("state", json(&walked.state, size)),
+    ])
 }
 
 /// Positions are numbers of 64 bits.
