@@ -1,6 +1,7 @@
 //! Predicates as counters: what WHILE has counted, as the library reads and writes it.
 
 use crate::assemble::assemble;
+use crate::lanes::elements;
 use crate::syntax::SIZES;
 use plokamyr::{Predicate, Reply, State};
 
@@ -34,8 +35,8 @@ pub fn counter(predicate: &Predicate, vl: u64) -> Option<Counter> {
     if *predicate == Predicate::default() {
         return None;
     }
-    let ways = (0..4).flat_map(|size| [true, false].map(|up| (size, up)));
-    ways.filter_map(|(size, up)| read(predicate, vl, size, up)).next()
+    let mut ways = (0..4).flat_map(|size| [true, false].map(|up| (size, up)));
+    ways.find_map(|(size, up)| read(predicate, vl, size, up))
 }
 
 fn read(predicate: &Predicate, vl: u64, size: u32, up: bool) -> Option<Counter> {
@@ -47,7 +48,7 @@ fn read(predicate: &Predicate, vl: u64, size: u32, up: bool) -> Option<Counter> 
     let again = if up { "whilelo" } else { "whilehi" };
     let ends = if up { "xzr, x0" } else { "x0, xzr" };
     step(&mut state, &format!("{again} pn9.{letter}, {ends}, vlx4"))?;
-    let elements = (vl / 8) >> size;
+    let elements = elements(vl, size) as u64;
     let groups = [(state.x[1], 2 * elements), (state.x[0], 4 * elements)];
     (state.p()[9] == *predicate).then_some(Counter { size, up, groups })
 }

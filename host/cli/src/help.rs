@@ -40,11 +40,7 @@ impl Command {
 
 impl Opt {
     pub fn name(&self) -> String {
-        if self.key.len() == 1 {
-            format!("-{}", self.key)
-        } else {
-            format!("--{}", self.key)
-        }
+        dashed(self.key)
     }
 
     /// With its value, and dots if it may be given again.
@@ -53,6 +49,11 @@ impl Opt {
         let dots = if self.repeats { ".." } else { "" };
         format!("{}{value}{dots}", self.name())
     }
+}
+
+/// An option as it is written.
+pub fn dashed(key: &str) -> String {
+    format!("{}{key}", if key.len() == 1 { "-" } else { "--" })
 }
 
 const fn flag(key: &'static str, text: &'static str) -> Opt {

@@ -11,6 +11,7 @@ pub mod walk;
 
 use crate::args::Args;
 use crate::failure::Failure;
+use crate::help::dashed;
 use crate::lanes::size_of;
 use crate::words::natural;
 
@@ -30,8 +31,8 @@ fn size(args: &Args) -> Result<u32, Failure> {
 }
 
 /// The number that an option gives; `what` says what would do.
-fn number(args: &Args, key: &'static str, what: &str) -> Result<Option<u64>, Failure> {
-    let name = if key.len() == 1 { format!("-{key}") } else { format!("--{key}") };
-    let read = |text: &str| natural(text).ok_or_else(|| format!("{name} is '{text}': {what} would do").into());
+fn number(args: &Args, key: &str, what: &str) -> Result<Option<u64>, Failure> {
+    let wrong = |text| format!("{} is '{text}': {what} would do", dashed(key)).into();
+    let read = |text| natural(text).ok_or_else(|| wrong(text));
     args.value(key).map(read).transpose()
 }

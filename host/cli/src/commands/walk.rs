@@ -2,6 +2,7 @@ use crate::args::Args;
 use crate::commands::explain::said;
 use crate::dump::{dump, json};
 use crate::failure::{status_of, Failure, Outcome};
+use crate::help::dashed;
 use crate::image::load;
 use crate::json::Json;
 use crate::style::Style;
@@ -22,9 +23,9 @@ pub fn command(args: &Args, style: Style) -> Result<Outcome, Failure> {
 }
 
 /// A register's number; past 32 bits it is past every register, as the largest of them is.
-fn register(args: &Args, key: &'static str) -> Result<u32, Failure> {
+fn register(args: &Args, key: &str) -> Result<u32, Failure> {
     let number = super::number(args, key, "the number of a register")?;
-    let number = number.ok_or_else(|| format!("-{key} is missing (try --help)"))?;
+    let number = number.ok_or_else(|| format!("{} is missing (try --help)", dashed(key)))?;
     Ok(u32::try_from(number).unwrap_or(u32::MAX))
 }
 
