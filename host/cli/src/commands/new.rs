@@ -106,27 +106,29 @@ fn allowed(name: &str, text: &str, would_do: &str, state: impl Fn(u64) -> State)
     value.ok_or_else(|| format!("{name} is '{text}': {would_do} would do").into())
 }
 
-/// `1=64`.
+/// `1=64` or `x1=64`.
 fn general(text: &str) -> Result<(usize, u64), Failure> {
     let read = || {
         let (number, value) = text.split_once('=')?;
-        Some((register(number, 31)?, wrapping(value)?))
+        Some((register(number, 'x', 31)?, wrapping(value)?))
     };
     read().ok_or_else(|| {
         format!("-x is '{text}': N=VALUE would do, with N 0 to 30 and a VALUE of 64 bits, as 1=64").into()
     })
 }
 
-fn register(text: &str, numbers: usize) -> Option<usize> {
-    natural(text).filter(|number| *number < numbers as u64).map(|number| number as usize)
+fn register(text: &str, letter: char, numbers: usize) -> Option<usize> {
+    natural(text.strip_prefix(letter).unwrap_or(text))
+        .filter(|number| *number < numbers as u64)
+        .map(|number| number as usize)
 }
 
-/// `0.s=0-4,7`.
+/// `0.s=0-4,7` or `p0.s=0-4,7`.
 fn lanes_of(text: &str, vl: u64) -> Result<(usize, Predicate), Failure> {
     let read = || {
         let (name, lanes) = text.split_once('=')?;
         let (number, letter) = name.split_once('.')?;
-        Some((register(number, 16)?, size_of(letter)?, lanes))
+        Some((register(number, 'p', 16)?, size_of(letter)?, lanes))
     };
     let wrong = || format!("-p is '{text}': N.SIZE=LANES would do, with N 0 to 15 and SIZE b, h, s or d, as 0.s=0-4,7");
     let (number, size, lanes) = read().ok_or_else(wrong)?;

@@ -6,14 +6,15 @@ use crate::help::dashed;
 use crate::image::load;
 use crate::json::Json;
 use crate::style::Style;
-use crate::words::{counted, grouped, runs, shortened};
+use crate::words::{counted, grouped, natural, runs, shortened};
 use plokamyr::{walk, Reply, State, Walked};
 use std::ops::RangeInclusive;
 
 pub fn command(args: &Args, style: Style) -> Result<Outcome, Failure> {
     let path = super::only(args, "FILE")?;
     let size = super::size(args)?;
-    let registers = [register(args, "n")?, register(args, "m")?, register(args, "d")?, register(args, "k")?];
+    let registers =
+        [register(args, "n", 'x')?, register(args, "m", 'x')?, register(args, "d", 'p')?, register(args, "k", 'p')?];
     let budget = super::number(args, "budget", "a number of instructions")?.unwrap_or(u64::MAX);
     let image = load(path)?;
     let (walked, list) = walked(&image.state, size, registers, budget);
@@ -22,10 +23,11 @@ pub fn command(args: &Args, style: Style) -> Result<Outcome, Failure> {
     Ok(Outcome::either(args, status_of(walked.reply), || answer(&walked, &positions, size), text))
 }
 
-/// A register's number; past 32 bits it is past every register, as the largest of them is.
-fn register(args: &Args, key: &str) -> Result<u32, Failure> {
-    let number = super::number(args, key, "the number of a register")?;
-    let number = number.ok_or_else(|| format!("{} is missing (try --help)", dashed(key)))?;
+/// A register's number, with its letter or without; past 32 bits it is past every register, as the largest of them is.
+fn register(args: &Args, key: &str, letter: char) -> Result<u32, Failure> {
+    let text = args.value(key).ok_or_else(|| format!("{} is missing (try --help)", dashed(key)))?;
+    let wrong = || format!("{} is '{text}': the number of a register would do, as 1 or {letter}1", dashed(key));
+    let number = natural(text.strip_prefix(letter).unwrap_or(text)).ok_or_else(wrong)?;
     Ok(u32::try_from(number).unwrap_or(u32::MAX))
 }
 
