@@ -8,11 +8,11 @@ pub fn advice(reply: Reply) -> &'static str {
         Reply::Done => "What was asked for is done.",
         Reply::ForeignWord => "The word is from elsewhere, as in a corrupt kernel: every word here has 25 in its highest byte. The state is as it was.",
         Reply::LevelTooLow => "The state's level is 0 none, 1 SVE, 2 SVE2 or 3 SVE2p1; 'plokamyr dis' tells what a word asks, and a walk asks 1. The state is as it was.",
-        Reply::AccessOff => "The state has its access set off; with it on, the word or the walk is executed. The state is as it was.",
+        Reply::AccessOff => "The state has its access set off; with it on, the word or the walk is not refused for this. The state is as it was.",
         Reply::IllegalState => "The vector length is 128, 256, 512, 1024 or 2048 bits, the level 0 to 3; no predicate, nor FFR, has a bit at or above an eighth of the length; \
                                 each count is that of its predicate (plokamyr_counted works them out). The state is as it was.",
         Reply::ImageCut => "Bytes are missing at the end of the image: 'plokamyr explain FILE' says of which section.",
-        Reply::NotAllowed => "'plokamyr explain FILE' says which byte of the image it is, and what is allowed there. When an image is written, it is more than 4,096 words.",
+        Reply::NotAllowed => "'plokamyr explain FILE' says which byte of the image it is, and what is allowed there. When an image is written, it means that there are more than 4,096 words.",
         Reply::TrailingBytes => "An image ends with its last word: 'plokamyr explain FILE' says where that is.",
         Reply::BufferTooSmall => "The buffer for the image, or the list for its words, needs more room: 17,207 bytes or 4,096 words are enough for any. Both are as they were.",
         Reply::FieldPastRange => "The row to be written as a word has a form or a field that no word has, or numbers other than 0 after its fields. The word is as it was.",

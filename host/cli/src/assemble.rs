@@ -227,7 +227,10 @@ impl<'a> Reader<'a> {
         let found = if zero { Some((31, 3)) } else { self.register(prefix, 0, 30) };
         match found.filter(|(_, length)| *length == self.token().text.len()) {
             Some((number, _)) => self.take(name, number, |known| general(prefix, known)),
-            None => Err(self.token().fault(&format!("{prefix}0 to {prefix}30 or {prefix}zr"))),
+            None => {
+                let expected = vec![format!("{prefix}0 to {prefix}30"), format!("{prefix}zr")];
+                Err(Fault { expected, ..self.token().fault("") })
+            }
         }
     }
 

@@ -62,7 +62,7 @@ fn step(state: &mut State, text: &str) -> Option<()> {
 mod tests {
     use super::*;
 
-    /// What a WHILE writes is read as what it was asked for, at every length, size and count; a full group is counted up.
+    /// What a WHILE writes is read as what it was asked for, at every length and size, for eight counts.
     #[test]
     fn what_while_writes() {
         for vl in [128, 256, 512, 1024, 2048] {

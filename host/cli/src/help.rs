@@ -68,7 +68,7 @@ const fn repeated(key: &'static str, value: &'static str, text: &'static str) ->
     Opt { key, value: Some(value), repeats: true, text }
 }
 
-const JSON: Opt = flag("json", "print JSON; numbers of 64 bits are texts of decimal digits");
+const JSON: Opt = flag("json", "print JSON, with the fields that docs/FORMAT.md has");
 
 pub const COMMANDS: &[Command] = &[
     Command {
@@ -91,7 +91,7 @@ pub const COMMANDS: &[Command] = &[
                last is not.",
         list: None,
         options: &[
-            option("after", "N", "the state after N words have been stepped"),
+            option("after", "N", "the state after N words have been stepped; it stops before one that is refused, with status 1"),
             option("size", "b|h|s|d", "the size of lanes: bytes (as without this option), halfwords, words, doublewords"),
             JSON,
         ],
@@ -102,7 +102,8 @@ pub const COMMANDS: &[Command] = &[
         name: "dis",
         operands: "WORD.. | FILE",
         summary: "shows words as instructions",
-        text: "A WORD has up to eight hexadecimal digits; anything else names an image. Prints each word with its instruction, as LLVM \
+        text: "A WORD has up to eight hexadecimal digits, with or without 0x; one operand that is none names an image (./NAME for \
+               a name of hexadecimal digits). Prints each word with its instruction, as LLVM \
                writes it, and the level that it asks: 1 SVE, 2 SVE2, 3 SVE2p1. A word that is none of ours is foreign if its bits 31:24 are not \
                00100101, else undefined here.",
         list: None,
@@ -114,7 +115,8 @@ pub const COMMANDS: &[Command] = &[
         name: "asm",
         operands: "TEXT.. | FILE.s",
         summary: "turns instructions into words",
-        text: "A TEXT is an instruction in Arm's syntax, or more with ';' between them. A FILE.s has them in lines; // begins a comment. \
+        text: "A TEXT is an instruction in Arm's syntax, or more with ';' between them. A FILE.s has them in lines; // begins a \
+               comment, and /* and */ enclose one. mov, movs, not and nots are aliases. \
                '.inst 0x25104041' stands for a word as it is. Prints the words.",
         list: Some(instructions),
         options: &[],
@@ -125,15 +127,16 @@ pub const COMMANDS: &[Command] = &[
         name: "new",
         operands: "-o FILE --vl BITS [KERNEL.s]",
         summary: "makes an image",
-        text: "Writes an image with the words of KERNEL.s, or with none. What is not given is zero, but the level, which is 3.",
+        text: "Writes an image with the words of KERNEL.s, or with none. What is not given is zero, except that the level is 3 and \
+               access is on.",
         list: None,
         options: &[
             option("o", "FILE", "the image to write; - for standard output"),
-            option("vl", "BITS", "the vector length"),
+            option("vl", "BITS", "the vector length: 128, 256, 512, 1024 or 2048"),
             option("level", "N", "0 none, 1 SVE, 2 SVE2, 3 SVE2p1"),
             flag("no-access", "access to SVE is off"),
-            repeated("x", "N=VALUE", "X register N, and so on for others; 0x.. is hexadecimal, and -1 wraps around"),
-            repeated("p", "N.SIZE=LANES", "the true lanes of P register N, and so on for others: 0-4,7, all or none"),
+            repeated("x", "N=VALUE", "the value of X register N, 0 to 30, decimal or 0x..; -1 is 0xffffffffffffffff; may be given for each"),
+            repeated("p", "N.SIZE=LANES", "the true lanes of P register N at a size b, h, s or d: 0-4,7, all or none; may be given for each"),
             option("ffr", "LANES", "the true lanes of FFR, in bytes"),
             option("nzcv", "BITS", "the flags, as 1010"),
         ],
@@ -155,7 +158,8 @@ pub const COMMANDS: &[Command] = &[
         name: "diff",
         operands: "A B",
         summary: "shows what differs between two images",
-        text: "Compares the states and the words of two images. Exit status 0 if they are alike, 1 if they differ.",
+        text: "Compares the states and the words of two images. Words are compared from both ends, and all between are shown, - for A and + for B. \
+               Exit status 0 if they are alike, 1 if they differ.",
         list: None,
         options: &[JSON],
         example: "diff tail.image later.image",
@@ -170,11 +174,11 @@ pub const COMMANDS: &[Command] = &[
         list: None,
         options: &[
             option("n", "N", "the X register with the first position"),
-            option("m", "M", "the X register with the limit; 31 is zero"),
+            option("m", "M", "the X register with the limit; 31 stands for zero"),
             option("d", "D", "the P register that WHILELO writes"),
             option("k", "K", "the P register that PNEXT writes"),
             option("size", "b|h|s|d", "the size of elements: bytes if it is not given"),
-            option("budget", "N", "the most instructions; as many as it takes if it is not given"),
+            option("budget", "N", "at most so many instructions; no limit if it is not given"),
             JSON,
         ],
         example: "walk tail.image -n 1 -m 2 -d 0 -k 1",
@@ -184,14 +188,16 @@ pub const COMMANDS: &[Command] = &[
 
 pub const VERSION: &str = concat!("plokamyr ", env!("CARGO_PKG_VERSION"));
 
-pub const ABOUT: &str = "Shows and converts images, words and register states of the predicate part of an Arm SVE interpreter. What an instruction \
-                     does comes from the proved library.";
+pub const ABOUT: &str = "Runs, shows, makes and compares images of Plokamyr, the predicate part of an Arm SVE interpreter, and turns words into \
+                         instructions and back. An image is a file with a register state and instruction words. What an \
+                         instruction does comes from the proved library.";
 
-pub const STATUS: [(&str, &str); 4] = [
+pub const STATUS: [(&str, &str); 5] = [
     ("0", "done"),
     ("1", "a word or a walk was refused; images differ"),
     ("2", "an image was refused"),
-    ("3", "anything else, with a line on standard error that says what"),
+    ("3", "anything else, with a message on standard error that says what"),
+    ("141", "the reader of standard output has gone away; nothing is said"),
 ];
 
 /// The page of all commands.
@@ -203,7 +209,7 @@ pub fn overview() -> String {
     page += "\nplokamyr COMMAND --help has more of each, plokamyr --man the manual page; there is --version too.\n";
     page += "A FILE may be - for standard input.\n\nExit status:\n";
     for (status, meaning) in STATUS {
-        page += &format!("  {status}  {meaning}\n");
+        page += &format!("  {status:<3}  {meaning}\n");
     }
     page
 }

@@ -18,7 +18,7 @@ fn main() -> ExitCode {
 }
 
 fn given() -> Result<Vec<String>, Failure> {
-    let not_text = |text: OsString| format!("'{}' is no UTF-8: another name would do", text.to_string_lossy()).into();
+    let not_text = |text: OsString| format!("'{}' is not UTF-8: another name would do", text.to_string_lossy()).into();
     args_os().skip(1).map(|text| text.into_string().map_err(not_text)).collect()
 }
 

@@ -100,7 +100,7 @@ fn comment_length(text: &str) -> Option<usize> {
 pub fn report(name: &str, problems: &[Problem], style: Style) -> String {
     let mut lines: Vec<String> = problems.iter().map(|problem| problem.report(name, style)).collect();
     if problems.len() == MOST {
-        lines.push(format!("{name}: what follows was not looked at"));
+        lines.push(format!("{MOST} faults are shown; there may be more"));
     }
     lines.join("\n")
 }
@@ -160,6 +160,6 @@ kernel.s:4:8: expected '*/' after it, found '/*'
         let expected = format!("    {}q\n    {}^", ";".repeat(BEFORE), " ".repeat(BEFORE));
         assert!(shown.starts_with("kernel.s:1:1001: ") && shown.ends_with(&expected), "{shown}");
         let many = report("kernel.s", &words(&"q;".repeat(100_000)).unwrap_err(), Style::PLAIN);
-        assert!(many.ends_with("\nkernel.s: what follows was not looked at") && many.len() < 3_000, "{many}");
+        assert!(many.ends_with("\n10 faults are shown; there may be more") && many.len() < 3_000, "{many}");
     }
 }

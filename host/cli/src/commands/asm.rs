@@ -38,7 +38,7 @@ const MOST: usize = 1 << 28;
 pub fn source(path: &str) -> Result<String, Failure> {
     let bytes = contents(path, MOST)?;
     if bytes.len() == MOST {
-        return Err(format!("{} is longer than {} bytes", named(path), grouped(MOST as u64)).into());
+        return Err(format!("{} has {} bytes or more", named(path), grouped(MOST as u64)).into());
     }
     Ok(String::from_utf8_lossy(&bytes).into_owned())
 }

@@ -20,7 +20,7 @@ pub fn command(args: &Args, style: Style) -> Result<Outcome, Failure> {
     Ok(Outcome::either(args, status, || json(&registers, &words), || lines.collect()))
 }
 
-/// A word that one image has and the other has not.
+/// A word of the part in which the images differ.
 #[derive(Clone, Debug, PartialEq, Eq)]
 struct Word {
     added: bool,

@@ -17,13 +17,15 @@ pub fn command(args: &Args, style: Style) -> Result<Outcome, Failure> {
     Ok(Outcome::either(args, status, json, || lines(&words, aliases, style)))
 }
 
+const WORD: &str = "word of up to eight hexadecimal digits";
+
 fn words(args: &Args) -> Result<Vec<u32>, Failure> {
     match args.operands.as_slice() {
         [] => Err("WORD or FILE is missing (try --help)".into()),
         [path] if word(path).is_none() && (path == "-" || Path::new(path).exists()) => Ok(load(path)?.words),
+        [text] => Ok(vec![word(text).ok_or_else(|| format!("'{text}' is no file, and no {WORD}"))?]),
         texts => {
-            let no_word =
-                |text| format!("'{text}' is neither a file nor a word of up to eight hexadecimal digits").into();
+            let no_word = |text| format!("several operands are words, and '{text}' is no {WORD}").into();
             texts.iter().map(|text| word(text).ok_or_else(|| no_word(text))).collect()
         }
     }
@@ -59,7 +61,7 @@ pub fn text(word: u32) -> String {
     match disassemble(word, Aliases::Off) {
         Ok(text) => text,
         Err(Reply::ForeignWord) => "foreign".to_string(),
-        Err(_) => "undefined".to_string(),
+        Err(_) => "undefined here".to_string(),
     }
 }
 

@@ -20,7 +20,7 @@ fn only<'a>(args: &'a Args, what: &str) -> Result<&'a str, Failure> {
     match args.operands.as_slice() {
         [operand] => Ok(operand),
         [] => Err(format!("{what} is missing (try --help)").into()),
-        [_, second, ..] => Err(format!("one {what} at a time: '{second}' is too much (try --help)").into()),
+        [_, second, ..] => Err(format!("one {what} is taken, and '{second}' is a second one (try --help)").into()),
     }
 }
 
