@@ -10,15 +10,6 @@ use Rattle.bits.proofs.element_mask.Tie as tie
 enum-told : tie.Need-enum-told
 enum-told c = search needs
 
-enum-told-2 : tie.Need-enum-told-2
-enum-told-2 c = search needs
-
-enum-told-3 : tie.Need-enum-told-3
-enum-told-3 c = search needs
-
-enum-told-4 : tie.Need-enum-told-4
-enum-told-4 c = search needs
-
 returns : tie.Need-returns
 unfolding number elementBit
 returns c = ap (λ (s : Size). number (elementBit (shift s)) 0 64) (sym (c .enum-told .given .1))
@@ -38,4 +29,4 @@ returns-4 c = ap (λ (s : Size). number (elementBit (shift s)) 0 64) (sym (c .en
 pub element-mask-spec : {M : Type 1} → statement M
 element-mask-spec =
     tie.close
-    (tie.spec enum-told enum-told-2 enum-told-3 enum-told-4 returns returns-2 returns-3 returns-4)
+    (tie.spec enum-told (λ c. search needs) (λ c. search needs) (λ c. search needs) returns returns-2 returns-3 returns-4)

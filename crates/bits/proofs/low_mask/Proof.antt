@@ -7,18 +7,9 @@ use Rattle.bits.proofs.Bits.{number-below, ones-shifted}
 use Rattle.bits.proofs.low_mask.Statement.{statement}
 use Rattle.bits.proofs.low_mask.Tie as tie
 
-room-requires : tie.Need-room-requires
-room-requires c κs = search needs
-
 returns : tie.Need-returns
 returns c =
     ap (λ (n : ℕ). 2 ^ n - 1) (sym (c .if1 .taken) ∙ c .before .room .ensures) ∙ sym (number-below (c .before .before .args .m) (c .before .before .args .at) 64)
-
-sub-result : tie.Need-sub-result
-sub-result c = search needs
-
-shr-result : tie.Need-shr-result
-shr-result c = search needs
 
 returns-2 : tie.Need-returns-2
 returns-2 c =
@@ -27,4 +18,4 @@ returns-2 c =
     ∙ sym (number-below (c .before .before .args .m) (c .before .before .args .at) 64)
 
 pub low-mask-spec : {M : Type 1} → statement M
-low-mask-spec = tie.close (tie.spec room-requires returns sub-result shr-result returns-2)
+low-mask-spec = tie.close (tie.spec (λ c κs. search needs) returns (λ c. search needs) (λ c. search needs) returns-2)

@@ -4,21 +4,6 @@ use borrow.Author.Needs.{needs}
 use Rattle.capi.proofs.plokamyr_encode.Statement.{statement}
 use Rattle.capi.proofs.plokamyr_encode.Tie as tie
 
-word-of-requires : tie.Need-word-of-requires
-word-of-requires c κs = search needs
-
-enum-known-encoded : tie.Need-enum-known-encoded
-enum-known-encoded c = search needs
-
-enum-known-encoded-2 : tie.Need-enum-known-encoded-2
-enum-known-encoded-2 c = search needs
-
-number-requires : tie.Need-number-requires
-number-requires c κs = search needs
-
-cast-result : tie.Need-cast-result
-cast-result c = search needs
-
 returns : tie.Need-returns
 returns c = search (to-row, after-row) depth 9
 
@@ -29,10 +14,10 @@ pub plokamyr-encode-spec : {M : Type 1} → statement M
 plokamyr-encode-spec =
     tie.close
     (tie.spec
-    word-of-requires
-    enum-known-encoded
-    enum-known-encoded-2
-    number-requires
-    cast-result
+    (λ c κs. search needs)
+    (λ c. search needs)
+    (λ c. search needs)
+    (λ c κs. search needs)
+    (λ c. search needs)
     returns
     returns-2)

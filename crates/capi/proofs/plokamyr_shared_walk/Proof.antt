@@ -5,21 +5,6 @@ use Rattle.capi.proofs.Kernels.{walked}
 use Rattle.capi.proofs.plokamyr_shared_walk.Statement.{statement}
 use Rattle.capi.proofs.plokamyr_shared_walk.Tie as tie
 
-of-requires : tie.Need-of-requires
-of-requires c κs = search needs
-
-walk-requires : tie.Need-walk-requires
-walk-requires c κs = search needs
-
-number-requires : tie.Need-number-requires
-number-requires c κs = search needs
-
-cast-t17 : tie.Need-cast-t17
-cast-t17 c = search needs
-
-same-length : tie.Need-same-length
-same-length c = search needs
-
 returns : tie.Need-returns
 returns c =
     let w = c .before .before .before .before in
@@ -29,4 +14,4 @@ returns c =
 
 pub plokamyr-shared-walk-spec : {M : Type 1} → statement M
 plokamyr-shared-walk-spec =
-    tie.close (tie.spec of-requires walk-requires number-requires cast-t17 same-length returns)
+    tie.close (tie.spec (λ c κs. search needs) (λ c κs. search needs) (λ c κs. search needs) (λ c. search needs) (λ c. search needs) returns)

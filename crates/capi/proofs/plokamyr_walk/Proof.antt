@@ -5,18 +5,6 @@ use Rattle.walk.proofs.Answered.{demand-of}
 use Rattle.capi.proofs.plokamyr_walk.Statement.{statement}
 use Rattle.capi.proofs.plokamyr_walk.Tie as tie
 
-walk-requires : tie.Need-walk-requires
-walk-requires c κs = search needs
-
-number-requires : tie.Need-number-requires
-number-requires c κs = search needs
-
-cast-t15 : tie.Need-cast-t15
-cast-t15 c = search needs
-
-same-length : tie.Need-same-length
-same-length c = search needs
-
 returns : tie.Need-returns
 returns c =
     let w = c .before .before .before .before in
@@ -25,4 +13,4 @@ returns c =
 
 pub plokamyr-walk-spec : {M : Type 1} → statement M
 plokamyr-walk-spec =
-    tie.close (tie.spec walk-requires number-requires cast-t15 same-length returns)
+    tie.close (tie.spec (λ c κs. search needs) (λ c κs. search needs) (λ c. search needs) (λ c. search needs) returns)

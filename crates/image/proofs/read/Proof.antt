@@ -4,35 +4,11 @@ use borrow.Author.Needs.{needs}
 use Rattle.image.proofs.read.Statement.{statement}
 use Rattle.image.proofs.read.Tie as tie
 
-image-reply-requires : tie.Need-image-reply-requires
-image-reply-requires c κs = search needs
-
-is-done-requires : tie.Need-is-done-requires
-is-done-requires c κs = search needs
-
-blank-requires : tie.Need-blank-requires
-blank-requires c κs = search needs
-
 returns : tie.Need-returns
 returns c = (search (needs, read-refused), search (needs, list-refused))
 
-start-of-requires : tie.Need-start-of-requires
-start-of-requires c κs = search needs
-
-count-of-requires : tie.Need-count-of-requires
-count-of-requires c κs = search needs
-
-after-requires : tie.Need-after-requires
-after-requires c κs = search needs
-
 fill-requires : tie.Need-fill-requires
 fill-requires c κs = (search (needs, fill-most), search (needs, fill-room))
-
-state-of-requires : tie.Need-state-of-requires
-state-of-requires c κs = search needs
-
-same-length : tie.Need-same-length
-same-length c = search needs
 
 returns-2 : tie.Need-returns-2
 returns-2 c =
@@ -50,14 +26,14 @@ pub read-spec : {M : Type 1} → statement M
 read-spec =
     tie.close
     (tie.spec
-    image-reply-requires
-    is-done-requires
-    blank-requires
+    (λ c κs. search needs)
+    (λ c κs. search needs)
+    (λ c κs. search needs)
     returns
-    start-of-requires
-    count-of-requires
-    after-requires
+    (λ c κs. search needs)
+    (λ c κs. search needs)
+    (λ c κs. search needs)
     fill-requires
-    state-of-requires
-    same-length
+    (λ c κs. search needs)
+    (λ c. search needs)
     returns-2)

@@ -24,26 +24,14 @@ start c = c .before .before .before .before .before .before
 long : (c : tie.After-image-length) → c .image-length .result ≡ length (imageOf (start c .args .state) (start c .args .words .now))
 long c = c .image-length .ensures ∙ sym (image-length (start c .args .state) (ok (start c)) (start c .args .words .now))
 
-is-legal-requires : tie.Need-is-legal-requires
-is-legal-requires c κs = search needs
-
-refused-requires : tie.Need-refused-requires
-refused-requires c κs = search needs
-
 returns : tie.Need-returns
 returns c = answer-refused _ _ _ R.IllegalState _ (reply-illegal _ _ _ _ (c .before .before .is-legal .ensures) (c .before .if1 .taken)) (λ z. omega arith) (c .refused .ensures)
-
-refused-requires-2 : tie.Need-refused-requires-2
-refused-requires-2 c κs = search needs
 
 returns-2 : tie.Need-returns-2
 returns-2 c = answer-refused _ _ _ R.NotAllowed _ (reply-many _ _ _ (is-lawful (c .before .before)) (c .before .if2 .taken)) (λ z. omega arith) (c .refused2 .ensures)
 
 image-length-requires : tie.Need-image-length-requires
 image-length-requires c κs = (legal-vl _ (is-lawful (c .before)), omega arith)
-
-refused-requires-3 : tie.Need-refused-requires-3
-refused-requires-3 c κs = search needs
 
 returns-3 : tie.Need-returns-3
 returns-3 c =
@@ -57,9 +45,6 @@ put-image-requires c κs =
     let n = long l in
     (is-lawful (l .before .before), (omega arith, omega arith))
 
-same-length : tie.Need-same-length
-same-length c = search needs
-
 returns-4 : tie.Need-returns-4
 returns-4 c =
     let e = c .before .before .before .before in
@@ -70,14 +55,14 @@ pub write-spec : {M : Type 1} → statement M
 write-spec =
     tie.close
     (tie.spec
-    is-legal-requires
-    refused-requires
+    (λ c κs. search needs)
+    (λ c κs. search needs)
     returns
-    refused-requires-2
+    (λ c κs. search needs)
     returns-2
     image-length-requires
-    refused-requires-3
+    (λ c κs. search needs)
     returns-3
     put-image-requires
-    same-length
+    (λ c. search needs)
     returns-4)

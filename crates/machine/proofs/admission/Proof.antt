@@ -4,9 +4,6 @@ use borrow.Author.Needs.{needs}
 use Rattle.machine.proofs.admission.Statement.{statement}
 use Rattle.machine.proofs.admission.Tie as tie
 
-level-requires : tie.Need-level-requires
-level-requires c κs = search needs
-
 returns : tie.Need-returns
 returns c = search (asks-more, needs) depth 9
 
@@ -20,4 +17,4 @@ returns-4 : tie.Need-returns-4
 returns-4 c = search (admitted, needs) depth 9
 
 pub admission-spec : {M : Type 1} → statement M
-admission-spec = tie.close (tie.spec level-requires returns returns-2 returns-3 returns-4)
+admission-spec = tie.close (tie.spec (λ c κs. search needs) returns returns-2 returns-3 returns-4)

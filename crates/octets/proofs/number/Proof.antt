@@ -36,9 +36,6 @@ mul-v c = omega (arith, room c)
 shared-slice-read-wide : tie.Need-shared-slice-read-wide Inv-loop μ-loop
 shared-slice-read-wide c = omega arith
 
-wide-requires : tie.Need-wide-requires Inv-loop μ-loop
-wide-requires c κs = search needs
-
 add-v : tie.Need-add-v Inv-loop μ-loop
 add-v c = omega (arith, room (c .before .before), c .wide .ensures .1)
 
@@ -70,7 +67,7 @@ number-spec =
     sub-i
     mul-v
     shared-slice-read-wide
-    wide-requires
+    (λ c κs. search needs)
     add-v
     sub-left
     loop-less

@@ -4,15 +4,6 @@ use borrow.Author.Needs.{needs}
 use Rattle.octets.proofs.number_at.Statement.{statement}
 use Rattle.octets.proofs.number_at.Tie as tie
 
-after-requires : tie.Need-after-requires
-after-requires c κs = search needs
-
-least-requires : tie.Need-least-requires
-least-requires c κs = search needs
-
-first-requires : tie.Need-first-requires
-first-requires c κs = search needs
-
 number-requires : tie.Need-number-requires
 number-requires c κs = search (needs, part-few)
 
@@ -21,4 +12,4 @@ returns c = cc
 
 pub number-at-spec : {M : Type 1} → statement M
 number-at-spec =
-    tie.close (tie.spec after-requires least-requires first-requires number-requires returns)
+    tie.close (tie.spec (λ c κs. search needs) (λ c κs. search needs) (λ c κs. search needs) number-requires returns)

@@ -8,23 +8,8 @@ use Rattle.predicates.proofs.Words.{words-of, Words, word}
 use Rattle.predicates.proofs.at_highest.Statement.{statement}
 use Rattle.predicates.proofs.at_highest.Tie as tie
 
-array-read-if1 : tie.Need-array-read-if1
-array-read-if1 c = search needs
-
-array-read-bit-of : tie.Need-array-read-bit-of
-array-read-bit-of c = search needs
-
-array-read-bit-length : tie.Need-array-read-bit-length
-array-read-bit-length c = search needs
-
-bit-length-requires : tie.Need-bit-length-requires
-bit-length-requires c κs = search needs
-
 add-bit-of : tie.Need-add-bit-of
 add-bit-of c = omega (arith, last-le (testBit (word (c .before .before .before .before .args .mask) 3)) 64)
-
-bit-of-requires : tie.Need-bit-of-requires
-bit-of-requires c κs = search needs
 
 returns : tie.Need-returns
 returns c =
@@ -32,23 +17,8 @@ returns c =
     let ok : Words m = search (needs, words-of) in
     highest-test m _ ok 3 (omega arith) (above-three m ok) (c .before .before .if1 .taken) _ _ (c .before .bit-length .ensures) (c .bit-of .ensures)
 
-array-read-if2 : tie.Need-array-read-if2
-array-read-if2 c = search needs
-
-array-read-bit-of-2 : tie.Need-array-read-bit-of-2
-array-read-bit-of-2 c = search needs
-
-array-read-bit-length-2 : tie.Need-array-read-bit-length-2
-array-read-bit-length-2 c = search needs
-
-bit-length-requires-2 : tie.Need-bit-length-requires-2
-bit-length-requires-2 c κs = search needs
-
 add-bit-of-2 : tie.Need-add-bit-of-2
 add-bit-of-2 c = omega (arith, last-le (testBit (word (c .before .before .before .before .before .args .mask) 2)) 64)
-
-bit-of-requires-2 : tie.Need-bit-of-requires-2
-bit-of-requires-2 c κs = search needs
 
 returns-2 : tie.Need-returns-2
 returns-2 c =
@@ -57,23 +27,8 @@ returns-2 c =
     highest-test m _ ok 2 (omega arith) (above-pred m 2 (above-three m ok) (c .before .before .before .if1 .left))
     (c .before .before .if2 .taken) _ _ (c .before .bit-length2 .ensures) (c .bit-of2 .ensures)
 
-array-read-if3 : tie.Need-array-read-if3
-array-read-if3 c = search needs
-
-array-read-bit-of-3 : tie.Need-array-read-bit-of-3
-array-read-bit-of-3 c = search needs
-
-array-read-bit-length-3 : tie.Need-array-read-bit-length-3
-array-read-bit-length-3 c = search needs
-
-bit-length-requires-3 : tie.Need-bit-length-requires-3
-bit-length-requires-3 c κs = search needs
-
 add-bit-of-3 : tie.Need-add-bit-of-3
 add-bit-of-3 c = omega (arith, last-le (testBit (word (c .before .before .before .before .before .before .args .mask) 1)) 64)
-
-bit-of-requires-3 : tie.Need-bit-of-requires-3
-bit-of-requires-3 c κs = search needs
 
 returns-3 : tie.Need-returns-3
 returns-3 c =
@@ -82,23 +37,8 @@ returns-3 c =
     highest-test m _ ok 1 (omega arith) (above-pred m 1 (above-pred m 2 (above-three m ok) (c .before .before .before .before .if1 .left)) (c .before .before .before .if2 .left))
     (c .before .before .if3 .taken) _ _ (c .before .bit-length3 .ensures) (c .bit-of3 .ensures)
 
-array-read-if4 : tie.Need-array-read-if4
-array-read-if4 c = search needs
-
-array-read-bit-of-4 : tie.Need-array-read-bit-of-4
-array-read-bit-of-4 c = search needs
-
-array-read-bit-length-4 : tie.Need-array-read-bit-length-4
-array-read-bit-length-4 c = search needs
-
-bit-length-requires-4 : tie.Need-bit-length-requires-4
-bit-length-requires-4 c κs = search needs
-
 add-bit-of-4 : tie.Need-add-bit-of-4
 add-bit-of-4 c = omega (arith, last-le (testBit (word (c .before .before .before .before .before .before .before .args .mask) 0)) 64)
-
-bit-of-requires-4 : tie.Need-bit-of-requires-4
-bit-of-requires-4 c κs = search needs
 
 returns-4 : tie.Need-returns-4
 returns-4 c =
@@ -119,32 +59,32 @@ pub at-highest-spec : {M : Type 1} → statement M
 at-highest-spec =
     tie.close
     (tie.spec
-    array-read-if1
-    array-read-bit-of
-    array-read-bit-length
-    bit-length-requires
+    (λ c. search needs)
+    (λ c. search needs)
+    (λ c. search needs)
+    (λ c κs. search needs)
     add-bit-of
-    bit-of-requires
+    (λ c κs. search needs)
     returns
-    array-read-if2
-    array-read-bit-of-2
-    array-read-bit-length-2
-    bit-length-requires-2
+    (λ c. search needs)
+    (λ c. search needs)
+    (λ c. search needs)
+    (λ c κs. search needs)
     add-bit-of-2
-    bit-of-requires-2
+    (λ c κs. search needs)
     returns-2
-    array-read-if3
-    array-read-bit-of-3
-    array-read-bit-length-3
-    bit-length-requires-3
+    (λ c. search needs)
+    (λ c. search needs)
+    (λ c. search needs)
+    (λ c κs. search needs)
     add-bit-of-3
-    bit-of-requires-3
+    (λ c κs. search needs)
     returns-3
-    array-read-if4
-    array-read-bit-of-4
-    array-read-bit-length-4
-    bit-length-requires-4
+    (λ c. search needs)
+    (λ c. search needs)
+    (λ c. search needs)
+    (λ c κs. search needs)
     add-bit-of-4
-    bit-of-requires-4
+    (λ c κs. search needs)
     returns-4
     returns-5)

@@ -5,12 +5,9 @@ use Rattle.bits.specs.Bits.{testBit}
 use Rattle.predicates.proofs.bit_of.Statement.{statement}
 use Rattle.predicates.proofs.bit_of.Tie as tie
 
-shr-result : tie.Need-shr-result
-shr-result c = search needs
-
 returns : tie.Need-returns
 unfolding testBit
 returns c = refl
 
 pub bit-of-spec : {M : Type 1} → statement M
-bit-of-spec = tie.close (tie.spec shr-result returns)
+bit-of-spec = tie.close (tie.spec (λ c. search needs) returns)

@@ -8,12 +8,6 @@ use Rattle.predicates.specs.Predicate.{elements}
 use Rattle.predicates.proofs.elements.Statement.{statement}
 use Rattle.predicates.proofs.elements.Tie as tie
 
-predicate-length-requires : tie.Need-predicate-length-requires
-predicate-length-requires c κs = search needs
-
-shift-requires : tie.Need-shift-requires
-shift-requires c κs = search needs
-
 shr-result : tie.Need-shr-result
 shr-result c = omega (arith, shift-lt (c .before .before .args .size))
 
@@ -22,4 +16,4 @@ unfolding elements
 returns c = ap₂ (λ (x k : ℕ). x / 2 ^ k) (c .before .predicate-length .ensures) (c .shift .ensures)
 
 pub elements-spec : {M : Type 1} → statement M
-elements-spec = tie.close (tie.spec predicate-length-requires shift-requires shr-result returns)
+elements-spec = tie.close (tie.spec (λ c κs. search needs) (λ c κs. search needs) shr-result returns)

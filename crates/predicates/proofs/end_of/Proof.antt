@@ -8,9 +8,6 @@ use Rattle.bits.proofs.Sizes.{shift-lt, shifted}
 use Rattle.predicates.proofs.end_of.Statement.{statement}
 use Rattle.predicates.proofs.end_of.Tie as tie
 
-shift-requires : tie.Need-shift-requires
-shift-requires c κs = search needs
-
 shl-result : tie.Need-shl-result
 shl-result c = omega (arith, shift-lt (c .before .before .args .size))
 
@@ -18,9 +15,6 @@ returns : tie.Need-returns
 returns c =
     ap (λ (k : ℕ). (256 * 2 ^ k) % 2 ^ 64) (c .shift .ensures) ∙ shifted 256 (shift (c .before .before .args .size)) (omega arith) (shift-lt (c .before .before .args .size))
     ∙ ap (λ (m : ℕ). m * 2 ^ shift (c .before .before .args .size)) (omega arith)
-
-shift-requires-2 : tie.Need-shift-requires-2
-shift-requires-2 c κs = search needs
 
 shl-result-2 : tie.Need-shl-result-2
 shl-result-2 c = omega (arith, shift-lt (c .before .before .args .size))
@@ -33,4 +27,4 @@ returns-2 c =
 
 pub end-of-spec : {M : Type 1} → statement M
 end-of-spec =
-    tie.close (tie.spec shift-requires shl-result returns shift-requires-2 shl-result-2 returns-2)
+    tie.close (tie.spec (λ c κs. search needs) shl-result returns (λ c κs. search needs) shl-result-2 returns-2)

@@ -9,15 +9,6 @@ use Rattle.predicates.proofs.Live.{test-live}
 use Rattle.predicates.proofs.pred_test.Statement.{statement}
 use Rattle.predicates.proofs.pred_test.Tie as tie
 
-live-requires : tie.Need-live-requires
-live-requires c κs = search needs
-
-and-requires : tie.Need-and-requires
-and-requires c κs = search needs
-
-test-bits-requires : tie.Need-test-bits-requires
-test-bits-requires c κs = search needs
-
 returns : tie.Need-returns
 returns c =
     let m = c .before .before .before .args .mask in
@@ -26,4 +17,4 @@ returns c =
     (c .before .and .ensures ∙ ap (λ (q : Predicate). pack (λ b. bitAt m b && bitAt q b)) (c .before .before .live .ensures)) _)
 
 pub pred-test-spec : {M : Type 1} → statement M
-pred-test-spec = tie.close (tie.spec live-requires and-requires test-bits-requires returns)
+pred-test-spec = tie.close (tie.spec (λ c κs. search needs) (λ c κs. search needs) (λ c κs. search needs) returns)

@@ -11,21 +11,6 @@ use Rattle.predicates.proofs.test_bits.Tie as tie
 
 -- `test_bits` meets its contract. Assumes nothing.
 
-at-lowest-requires : tie.Need-at-lowest-requires
-at-lowest-requires c κs = search needs
-
-and-requires : tie.Need-and-requires
-and-requires c κs = search needs
-
-is-empty-requires : tie.Need-is-empty-requires
-is-empty-requires c κs = search needs
-
-at-highest-requires : tie.Need-at-highest-requires
-at-highest-requires c κs = search needs
-
-nzcv-requires : tie.Need-nzcv-requires
-nzcv-requires c κs = search needs
-
 returns : tie.Need-returns
 returns c =
     let m = c .before .before .before .before .before .args .mask in
@@ -38,9 +23,9 @@ pub test-bits-spec : {M : Type 1} → statement M
 test-bits-spec =
     tie.close
     (tie.spec
-    at-lowest-requires
-    and-requires
-    is-empty-requires
-    at-highest-requires
-    nzcv-requires
+    (λ c κs. search needs)
+    (λ c κs. search needs)
+    (λ c κs. search needs)
+    (λ c κs. search needs)
+    (λ c κs. search needs)
     returns)

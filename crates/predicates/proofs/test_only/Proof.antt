@@ -13,12 +13,6 @@ use Rattle.predicates.proofs.Words.{words-of, bit-below}
 use Rattle.predicates.proofs.test_only.Statement.{statement}
 use Rattle.predicates.proofs.test_only.Tie as tie
 
-bit-requires : tie.Need-bit-requires
-bit-requires c κs = search needs
-
-nzcv-requires : tie.Need-nzcv-requires
-nzcv-requires c κs = search needs
-
 returns : tie.Need-returns
 returns c =
     let a = c .before .before .before .args in
@@ -31,17 +25,8 @@ has c = sym (c .before .bit .ensures) ∙ not-false _ (c .if1 .left)
 below : (c : tie.Else1) → c .before .before .args .b < 256
 below c = bit-below (c .before .before .args .mask) (search (needs, words-of)) _ (has c)
 
-lowest-requires : tie.Need-lowest-requires
-lowest-requires c κs = search needs
-
-after-highest-requires : tie.Need-after-highest-requires
-after-highest-requires c κs = search needs
-
 add-nzcv : tie.Need-add-nzcv
 add-nzcv c = omega (arith, below (c .before .before))
-
-nzcv-requires-2 : tie.Need-nzcv-requires-2
-nzcv-requires-2 c κs = search needs
 
 returns-2 : tie.Need-returns-2
 returns-2 c =
@@ -55,11 +40,11 @@ pub test-only-spec : {M : Type 1} → statement M
 test-only-spec =
     tie.close
     (tie.spec
-    bit-requires
-    nzcv-requires
+    (λ c κs. search needs)
+    (λ c κs. search needs)
     returns
-    lowest-requires
-    after-highest-requires
+    (λ c κs. search needs)
+    (λ c κs. search needs)
     add-nzcv
-    nzcv-requires-2
+    (λ c κs. search needs)
     returns-2)

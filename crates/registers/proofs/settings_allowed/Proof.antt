@@ -4,9 +4,6 @@ use borrow.Author.Needs.{needs}
 use Rattle.registers.proofs.settings_allowed.Statement.{statement}
 use Rattle.registers.proofs.settings_allowed.Tie as tie
 
-is-length-requires : tie.Need-is-length-requires
-is-length-requires c κs = search needs
-
 returns : tie.Need-returns
 returns c = search (needs, not-length)
 
@@ -14,4 +11,4 @@ returns-2 : tie.Need-returns-2
 returns-2 c = search (needs, by-level)
 
 pub settings-allowed-spec : {M : Type 1} → statement M
-settings-allowed-spec = tie.close (tie.spec is-length-requires returns returns-2)
+settings-allowed-spec = tie.close (tie.spec (λ c κs. search needs) returns returns-2)

@@ -7,39 +7,9 @@ use borrow.Author.Needs.{needs}
 use Rattle.report.proofs.image_line.Statement.{statement}
 use Rattle.report.proofs.image_line.Tie as tie
 
-width-requires : tie.Need-width-requires
-width-requires c κs = search needs
-
-left-requires : tie.Need-left-requires
-left-requires c κs = search needs
-
-add-if1 : tie.Need-add-if1
-add-if1 c = search needs
-
 returns : tie.Need-returns
 unfolding imageLine
 returns c = line-refused _ _ _ _ _ (text-length (105 ∷ 109 ∷ 97 ∷ 103 ∷ 101 ∷ 32 ∷ []) _ _ (c .before .before .width .ensures .0)) (c .before .left .ensures) (c .if1 .taken)
-
-slice-aggregate-put-text : tie.Need-slice-aggregate-put-text
-slice-aggregate-put-text c = search needs
-
-put-text-requires : tie.Need-put-text-requires
-put-text-requires c κs = search needs
-
-add-put-field : tie.Need-add-put-field
-add-put-field c = search needs
-
-put-field-requires : tie.Need-put-field-requires
-put-field-requires c κs = search needs
-
-add-result : tie.Need-add-result
-add-result c = search needs
-
-add-result-2 : tie.Need-add-result-2
-add-result-2 c = search needs
-
-same-length : tie.Need-same-length
-same-length c = search needs
 
 returns-2 : tie.Need-returns-2
 unfolding imageLine
@@ -56,15 +26,15 @@ pub image-line-spec : {M : Type 1} → statement M
 image-line-spec =
     tie.close
     (tie.spec
-    width-requires
-    left-requires
-    add-if1
+    (λ c κs. search needs)
+    (λ c κs. search needs)
+    (λ c. search needs)
     returns
-    slice-aggregate-put-text
-    put-text-requires
-    add-put-field
-    put-field-requires
-    add-result
-    add-result-2
-    same-length
+    (λ c. search needs)
+    (λ c κs. search needs)
+    (λ c. search needs)
+    (λ c κs. search needs)
+    (λ c. search needs)
+    (λ c. search needs)
+    (λ c. search needs)
     returns-2)

@@ -23,12 +23,6 @@ small c = let m = mod-lt (c .before .loop .rest) {m = c .before .before .before 
 loop-holds : tie.Need-loop-holds Inv-loop μ-loop
 loop-holds c = (omega arith, (refl, refl))
 
-sub-i : tie.Need-sub-i Inv-loop μ-loop
-sub-i c = search needs
-
-rem-symbol : tie.Need-rem-symbol Inv-loop μ-loop
-rem-symbol c = search needs
-
 cast-symbol : tie.Need-cast-symbol Inv-loop μ-loop
 cast-symbol c = omega (arith, small c)
 
@@ -41,17 +35,11 @@ add-buffer c = omega arith
 slice-write-buffer : tie.Need-slice-write-buffer Inv-loop μ-loop
 slice-write-buffer c = omega arith
 
-div-rest : tie.Need-div-rest Inv-loop μ-loop
-div-rest c = search needs
-
 loop-less : tie.Need-loop-less Inv-loop μ-loop
 loop-less c = omega arith
 
 loop-again : tie.Need-loop-again Inv-loop μ-loop
 loop-again c = (omega arith, (simp length-set (omega arith), digit-turn _ _ _ _ _ _ (c .before .loop-test .taken) (c .symbol .ensures) ∙ c .before .before .loop .inv .1 .1))
-
-add-buffer-2 : tie.Need-add-buffer-2 Inv-loop μ-loop
-add-buffer-2 c = search needs
 
 slice-write-buffer-2 : tie.Need-slice-write-buffer-2 Inv-loop μ-loop
 slice-write-buffer-2 c = omega arith
@@ -69,16 +57,16 @@ put-field-spec =
     Inv-loop
     μ-loop
     loop-holds
-    sub-i
-    rem-symbol
+    (λ c. search needs)
+    (λ c. search needs)
     cast-symbol
     symbol-requires
     add-buffer
     slice-write-buffer
-    div-rest
+    (λ c. search needs)
     loop-less
     loop-again
-    add-buffer-2
+    (λ c. search needs)
     slice-write-buffer-2
     same-length
     returns)

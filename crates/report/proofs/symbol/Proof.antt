@@ -4,17 +4,11 @@ use borrow.Author.Needs.{needs}
 use Rattle.report.proofs.symbol.Statement.{statement}
 use Rattle.report.proofs.symbol.Tie as tie
 
-add-result : tie.Need-add-result
-add-result c = search needs
-
 returns : tie.Need-returns
 returns c = search (needs, symbol-low)
-
-add-result-2 : tie.Need-add-result-2
-add-result-2 c = search needs
 
 returns-2 : tie.Need-returns-2
 returns-2 c = search (needs, symbol-high)
 
 pub symbol-spec : {M : Type 1} → statement M
-symbol-spec = tie.close (tie.spec add-result returns add-result-2 returns-2)
+symbol-spec = tie.close (tie.spec (λ c. search needs) returns (λ c. search needs) returns-2)

@@ -5,70 +5,10 @@ use borrow.Author.Needs.{needs}
 use Rattle.report.proofs.word_line.Statement.{statement}
 use Rattle.report.proofs.word_line.Tie as tie
 
-width-requires : tie.Need-width-requires
-width-requires c κs = search needs
-
-width-requires-2 : tie.Need-width-requires-2
-width-requires-2 c κs = search needs
-
-left-requires : tie.Need-left-requires
-left-requires c κs = search needs
-
-add-if1 : tie.Need-add-if1
-add-if1 c = search needs
-
-add-if1-2 : tie.Need-add-if1-2
-add-if1-2 c = search needs
-
 returns : tie.Need-returns
 returns c =
     let w = c .before .before in
     line-refused _ _ _ _ _ (word-length _ _ _ _ _ _ (w .before .width .ensures .0) (w .width2 .ensures .0)) (c .before .left .ensures) (c .if1 .taken)
-
-put-field-requires : tie.Need-put-field-requires
-put-field-requires c κs = search needs
-
-add-put-field : tie.Need-add-put-field
-add-put-field c = search needs
-
-add-put-field-2 : tie.Need-add-put-field-2
-add-put-field-2 c = search needs
-
-put-field-requires-2 : tie.Need-put-field-requires-2
-put-field-requires-2 c κs = search needs
-
-add-put-field-3 : tie.Need-add-put-field-3
-add-put-field-3 c = search needs
-
-add-put-field-4 : tie.Need-add-put-field-4
-add-put-field-4 c = search needs
-
-put-field-requires-3 : tie.Need-put-field-requires-3
-put-field-requires-3 c κs = search needs
-
-add-put-flags : tie.Need-add-put-flags
-add-put-flags c = search needs
-
-add-put-flags-2 : tie.Need-add-put-flags-2
-add-put-flags-2 c = search needs
-
-add-put-flags-3 : tie.Need-add-put-flags-3
-add-put-flags-3 c = search needs
-
-put-flags-requires : tie.Need-put-flags-requires
-put-flags-requires c κs = search needs
-
-add-result : tie.Need-add-result
-add-result c = search needs
-
-add-result-2 : tie.Need-add-result-2
-add-result-2 c = search needs
-
-add-result-3 : tie.Need-add-result-3
-add-result-3 c = search needs
-
-same-length : tie.Need-same-length
-same-length c = search needs
 
 returns-2 : tie.Need-returns-2
 returns-2 c =
@@ -86,25 +26,25 @@ pub word-line-spec : {M : Type 1} → statement M
 word-line-spec =
     tie.close
     (tie.spec
-    width-requires
-    width-requires-2
-    left-requires
-    add-if1
-    add-if1-2
+    (λ c κs. search needs)
+    (λ c κs. search needs)
+    (λ c κs. search needs)
+    (λ c. search needs)
+    (λ c. search needs)
     returns
-    put-field-requires
-    add-put-field
-    add-put-field-2
-    put-field-requires-2
-    add-put-field-3
-    add-put-field-4
-    put-field-requires-3
-    add-put-flags
-    add-put-flags-2
-    add-put-flags-3
-    put-flags-requires
-    add-result
-    add-result-2
-    add-result-3
-    same-length
+    (λ c κs. search needs)
+    (λ c. search needs)
+    (λ c. search needs)
+    (λ c κs. search needs)
+    (λ c. search needs)
+    (λ c. search needs)
+    (λ c κs. search needs)
+    (λ c. search needs)
+    (λ c. search needs)
+    (λ c. search needs)
+    (λ c κs. search needs)
+    (λ c. search needs)
+    (λ c. search needs)
+    (λ c. search needs)
+    (λ c. search needs)
     returns-2)

@@ -7,20 +7,8 @@ use Rattle.scalars.proofs.Values.{passed, toZ-fits}
 use Rattle.scalars.proofs.compare32.Statement.{statement}
 use Rattle.scalars.proofs.compare32.Tie as tie
 
-holds-u64-requires : tie.Need-holds-u64-requires
-holds-u64-requires c κs = search needs
-
 returns : tie.Need-returns
 returns c = rw (c .before .if1 .taken) (c .holds-u64 .ensures)
-
-signed32-requires : tie.Need-signed32-requires
-signed32-requires c κs = search needs
-
-signed32-requires-2 : tie.Need-signed32-requires-2
-signed32-requires-2 c κs = search needs
-
-holds-i32-requires : tie.Need-holds-i32-requires
-holds-i32-requires c κs = search needs
 
 returns-2 : tie.Need-returns-2
 returns-2 c =
@@ -35,9 +23,9 @@ pub compare32-spec : {M : Type 1} → statement M
 compare32-spec =
     tie.close
     (tie.spec
-    holds-u64-requires
+    (λ c κs. search needs)
     returns
-    signed32-requires
-    signed32-requires-2
-    holds-i32-requires
+    (λ c κs. search needs)
+    (λ c κs. search needs)
+    (λ c κs. search needs)
     returns-2)

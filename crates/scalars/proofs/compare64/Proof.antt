@@ -7,20 +7,8 @@ use Rattle.scalars.proofs.Values.{passed, toZ-fits}
 use Rattle.scalars.proofs.compare64.Statement.{statement}
 use Rattle.scalars.proofs.compare64.Tie as tie
 
-holds-u64-requires : tie.Need-holds-u64-requires
-holds-u64-requires c κs = search needs
-
 returns : tie.Need-returns
 returns c = rw (c .before .if1 .taken) (c .holds-u64 .ensures)
-
-signed64-requires : tie.Need-signed64-requires
-signed64-requires c κs = search needs
-
-signed64-requires-2 : tie.Need-signed64-requires-2
-signed64-requires-2 c κs = search needs
-
-holds-i64-requires : tie.Need-holds-i64-requires
-holds-i64-requires c κs = search needs
 
 returns-2 : tie.Need-returns-2
 returns-2 c =
@@ -35,9 +23,9 @@ pub compare64-spec : {M : Type 1} → statement M
 compare64-spec =
     tie.close
     (tie.spec
-    holds-u64-requires
+    (λ c κs. search needs)
     returns
-    signed64-requires
-    signed64-requires-2
-    holds-i64-requires
+    (λ c κs. search needs)
+    (λ c κs. search needs)
+    (λ c κs. search needs)
     returns-2)

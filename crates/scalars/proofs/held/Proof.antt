@@ -8,9 +8,6 @@ use Rattle.scalars.specs.While.{comparison, heldOf}
 use Rattle.scalars.proofs.held.Statement.{statement}
 use Rattle.scalars.proofs.held.Tie as tie
 
-held64-requires : tie.Need-held64-requires
-held64-requires c κs = search needs
-
 returns : tie.Need-returns
 returns c =
     let u = c .before .before .args .unsigned in
@@ -18,15 +15,6 @@ returns c =
     rw (c .before .if1 .taken)
     (c .held64 .ensures
     ∙ ap₂ (λ (x y : ℕ). heldOf (comparison w64 u k x y) (c .before .before .args .n)) (sym (mod-eq-of-lt (c .before .before .fits .a .fits))) (sym (mod-eq-of-lt (c .before .before .fits .b .fits))))
-
-low-word-requires : tie.Need-low-word-requires
-low-word-requires c κs = search needs
-
-low-word-requires-2 : tie.Need-low-word-requires-2
-low-word-requires-2 c κs = search needs
-
-held32-requires : tie.Need-held32-requires
-held32-requires c κs = search needs
 
 returns-2 : tie.Need-returns-2
 returns-2 c =
@@ -40,9 +28,9 @@ pub held-spec : {M : Type 1} → statement M
 held-spec =
     tie.close
     (tie.spec
-    held64-requires
+    (λ c κs. search needs)
     returns
-    low-word-requires
-    low-word-requires-2
-    held32-requires
+    (λ c κs. search needs)
+    (λ c κs. search needs)
+    (λ c κs. search needs)
     returns-2)

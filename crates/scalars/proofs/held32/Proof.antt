@@ -12,23 +12,8 @@ Inv-loop condition unsigned a b n up operand₀ i₀ operand i = At w32 unsigned
 abbrev μ-loop : tie.MeasureT-loop
 μ-loop condition unsigned a b n up operand₀ i₀ operand i = n - i
 
-counts-up-requires : tie.Need-counts-up-requires Inv-loop μ-loop
-counts-up-requires c κs = search needs
-
 loop-holds : tie.Need-loop-holds Inv-loop μ-loop
 loop-holds c = begin _ _ _ _ _ _
-
-compare32-requires : tie.Need-compare32-requires Inv-loop μ-loop
-compare32-requires c κs = search needs
-
-step32-requires : tie.Need-step32-requires Inv-loop μ-loop
-step32-requires c κs = search needs
-
-add-i : tie.Need-add-i Inv-loop μ-loop
-add-i c = search needs
-
-loop-less : tie.Need-loop-less Inv-loop μ-loop
-loop-less c = search needs
 
 loop-again : tie.Need-loop-again Inv-loop μ-loop
 loop-again c = again _ _ _ _ _ _ _ _ _ _ _ (c .before .before .before .before .loop .inv) (c .before .before .before .loop-test .taken) (c .before .before .compare32 .ensures) (c .before .if1 .taken) (c .before .before .before .before .before .counts-up .ensures) (c .step32 .ensures)
@@ -45,12 +30,12 @@ held32-spec =
     (tie.spec
     Inv-loop
     μ-loop
-    counts-up-requires
+    (λ c κs. search needs)
     loop-holds
-    compare32-requires
-    step32-requires
-    add-i
-    loop-less
+    (λ c κs. search needs)
+    (λ c κs. search needs)
+    (λ c. search needs)
+    (λ c. search needs)
     loop-again
     returns
     returns-2)

@@ -12,23 +12,8 @@ Inv-loop condition unsigned a b n up operand₀ i₀ operand i = At w64 unsigned
 abbrev μ-loop : tie.MeasureT-loop
 μ-loop condition unsigned a b n up operand₀ i₀ operand i = n - i
 
-counts-up-requires : tie.Need-counts-up-requires Inv-loop μ-loop
-counts-up-requires c κs = search needs
-
 loop-holds : tie.Need-loop-holds Inv-loop μ-loop
 loop-holds c = begin _ _ _ _ _ _
-
-compare64-requires : tie.Need-compare64-requires Inv-loop μ-loop
-compare64-requires c κs = search needs
-
-step64-requires : tie.Need-step64-requires Inv-loop μ-loop
-step64-requires c κs = search needs
-
-add-i : tie.Need-add-i Inv-loop μ-loop
-add-i c = search needs
-
-loop-less : tie.Need-loop-less Inv-loop μ-loop
-loop-less c = search needs
 
 loop-again : tie.Need-loop-again Inv-loop μ-loop
 loop-again c = again _ _ _ _ _ _ _ _ _ _ _ (c .before .before .before .before .loop .inv) (c .before .before .before .loop-test .taken) (c .before .before .compare64 .ensures) (c .before .if1 .taken) (c .before .before .before .before .before .counts-up .ensures) (c .step64 .ensures)
@@ -45,12 +30,12 @@ held64-spec =
     (tie.spec
     Inv-loop
     μ-loop
-    counts-up-requires
+    (λ c κs. search needs)
     loop-holds
-    compare64-requires
-    step64-requires
-    add-i
-    loop-less
+    (λ c κs. search needs)
+    (λ c κs. search needs)
+    (λ c. search needs)
+    (λ c. search needs)
     loop-again
     returns
     returns-2)

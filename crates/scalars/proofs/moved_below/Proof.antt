@@ -11,12 +11,6 @@ returns c = rw (c .before .if1 .taken) (dec-zero _ _ _ (c .if2 .taken))
 returns-2 : tie.Need-returns-2
 returns-2 c = rw (c .before .if1 .taken) (dec-more _ _ _ (omega arith) (c .if2 .left))
 
-sub-if3 : tie.Need-sub-if3
-sub-if3 c = search needs
-
-add-result : tie.Need-add-result
-add-result c = search needs
-
 returns-3 : tie.Need-returns-3
 returns-3 c = rw (c .before .if1 .left) (inc-top _ _ _ (omega arith) (c .if3 .taken))
 
@@ -24,4 +18,4 @@ returns-4 : tie.Need-returns-4
 returns-4 c = rw (c .before .if1 .left) (inc-more _ _ _ (omega arith) (c .if3 .left))
 
 pub moved-below-spec : {M : Type 1} → statement M
-moved-below-spec = tie.close (tie.spec returns returns-2 sub-if3 add-result returns-3 returns-4)
+moved-below-spec = tie.close (tie.spec returns returns-2 (λ c. search needs) (λ c. search needs) returns-3 returns-4)

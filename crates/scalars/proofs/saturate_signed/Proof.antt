@@ -21,15 +21,6 @@ narrow r f =
     let wide : SFits w64 (toZ w32 (ofZ w32 r)) = rw same (sfits-widen {w = w32} tt f) in
     (wide, toZ-ofZ wide ∙ same)
 
-signed64-requires : tie.Need-signed64-requires
-signed64-requires c κs = search needs
-
-decrement64-requires : tie.Need-decrement64-requires
-decrement64-requires c κs = search needs
-
-bits-of-requires : tie.Need-bits-of-requires
-bits-of-requires c κs = search needs
-
 returns : tie.Need-returns
 returns c =
     let s = c .before .before .before .before .before in
@@ -37,15 +28,6 @@ returns c =
     (ap widthOf (c .before .before .before .before .if1 .taken)) (c .before .before .before .if2 .taken) (mod-lt (s .args .x) (pow-pos 64))
     (c .before .before .signed64 .ensures ∙ ap (toZ w64) (sym (mod-eq-of-lt (s .fits .x .fits)))) (c .before .decrement64 .ensures) (toZ-ofZ (record { sfits = c .before .decrement64 .ok }))
     (c .bits-of .ensures)
-
-signed64-requires-2 : tie.Need-signed64-requires-2
-signed64-requires-2 c κs = search needs
-
-increment64-requires : tie.Need-increment64-requires
-increment64-requires c κs = search needs
-
-bits-of-requires-2 : tie.Need-bits-of-requires-2
-bits-of-requires-2 c κs = search needs
 
 returns-2 : tie.Need-returns-2
 returns-2 c =
@@ -55,20 +37,8 @@ returns-2 c =
     (c .before .before .signed642 .ensures ∙ ap (toZ w64) (sym (mod-eq-of-lt (s .fits .x .fits)))) (c .before .increment64 .ensures) (toZ-ofZ (record { sfits = c .before .increment64 .ok }))
     (c .bits-of2 .ensures)
 
-low-word-requires : tie.Need-low-word-requires
-low-word-requires c κs = search needs
-
-signed32-requires : tie.Need-signed32-requires
-signed32-requires c κs = search needs
-
-decrement32-requires : tie.Need-decrement32-requires
-decrement32-requires c κs = search needs
-
 cast-bits-of : tie.Need-cast-bits-of
 cast-bits-of c = narrow (c .decrement32 .result) (record { sfits = c .decrement32 .ok }) .0
-
-bits-of-requires-3 : tie.Need-bits-of-requires-3
-bits-of-requires-3 c κs = search needs
 
 returns-3 : tie.Need-returns-3
 returns-3 c =
@@ -78,20 +48,8 @@ returns-3 c =
     (c .before .before .signed32 .ensures ∙ ap (toZ w32) (c .before .before .before .low-word .ensures)) (c .before .decrement32 .ensures) (narrow (c .before .decrement32 .result) (record { sfits = c .before .decrement32 .ok }) .1)
     (c .bits-of3 .ensures)
 
-low-word-requires-2 : tie.Need-low-word-requires-2
-low-word-requires-2 c κs = search needs
-
-signed32-requires-2 : tie.Need-signed32-requires-2
-signed32-requires-2 c κs = search needs
-
-increment32-requires : tie.Need-increment32-requires
-increment32-requires c κs = search needs
-
 cast-bits-of-2 : tie.Need-cast-bits-of-2
 cast-bits-of-2 c = narrow (c .increment32 .result) (record { sfits = c .increment32 .ok }) .0
-
-bits-of-requires-4 : tie.Need-bits-of-requires-4
-bits-of-requires-4 c κs = search needs
 
 returns-4 : tie.Need-returns-4
 returns-4 c =
@@ -105,23 +63,23 @@ pub saturate-signed-spec : {M : Type 1} → statement M
 saturate-signed-spec =
     tie.close
     (tie.spec
-    signed64-requires
-    decrement64-requires
-    bits-of-requires
+    (λ c κs. search needs)
+    (λ c κs. search needs)
+    (λ c κs. search needs)
     returns
-    signed64-requires-2
-    increment64-requires
-    bits-of-requires-2
+    (λ c κs. search needs)
+    (λ c κs. search needs)
+    (λ c κs. search needs)
     returns-2
-    low-word-requires
-    signed32-requires
-    decrement32-requires
+    (λ c κs. search needs)
+    (λ c κs. search needs)
+    (λ c κs. search needs)
     cast-bits-of
-    bits-of-requires-3
+    (λ c κs. search needs)
     returns-3
-    low-word-requires-2
-    signed32-requires-2
-    increment32-requires
+    (λ c κs. search needs)
+    (λ c κs. search needs)
+    (λ c κs. search needs)
     cast-bits-of-2
-    bits-of-requires-4
+    (λ c κs. search needs)
     returns-4)

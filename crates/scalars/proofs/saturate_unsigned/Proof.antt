@@ -8,16 +8,10 @@ use Rattle.scalars.proofs.Clamps.{unsigned-done}
 use Rattle.scalars.proofs.saturate_unsigned.Statement.{statement}
 use Rattle.scalars.proofs.saturate_unsigned.Tie as tie
 
-moved-below-requires : tie.Need-moved-below-requires
-moved-below-requires c κs = search needs
-
 returns : tie.Need-returns
 returns c =
     let s = c .before .before in
     unsigned-done w64 (s .args .wide) (s .args .decrement) (s .args .x) (s .args .x) (s .args .n) _ (ap widthOf (c .before .if1 .taken)) (sym (mod-eq-of-lt (s .fits .x .fits))) (c .moved-below .ensures)
-
-moved-below-requires-2 : tie.Need-moved-below-requires-2
-moved-below-requires-2 c κs = search needs
 
 returns-2 : tie.Need-returns-2
 returns-2 c =
@@ -25,4 +19,4 @@ returns-2 c =
     unsigned-done w32 (s .args .wide) (s .args .decrement) (s .args .x) _ (s .args .n) _ (ap widthOf (c .before .if1 .left)) refl (c .moved-below2 .ensures)
 
 pub saturate-unsigned-spec : {M : Type 1} → statement M
-saturate-unsigned-spec = tie.close (tie.spec moved-below-requires returns moved-below-requires-2 returns-2)
+saturate-unsigned-spec = tie.close (tie.spec (λ c κs. search needs) returns (λ c κs. search needs) returns-2)

@@ -4,18 +4,12 @@ use borrow.Author.Needs.{needs}
 use Rattle.scalars.proofs.step64.Statement.{statement}
 use Rattle.scalars.proofs.step64.Tie as tie
 
-wrapping-add-u64-requires : tie.Need-wrapping-add-u64-requires
-wrapping-add-u64-requires c κs = search needs
-
 returns : tie.Need-returns
 returns c = rw (c .before .if1 .taken) (c .wrapping-add-u64 .ensures)
-
-wrapping-sub-u64-requires : tie.Need-wrapping-sub-u64-requires
-wrapping-sub-u64-requires c κs = search needs
 
 returns-2 : tie.Need-returns-2
 returns-2 c = rw (c .before .if1 .left) (omega arith)
 
 pub step64-spec : {M : Type 1} → statement M
 step64-spec =
-    tie.close (tie.spec wrapping-add-u64-requires returns wrapping-sub-u64-requires returns-2)
+    tie.close (tie.spec (λ c κs. search needs) returns (λ c κs. search needs) returns-2)

@@ -19,15 +19,6 @@ abbrev μ-loop : tie.MeasureT-loop
 loop-holds : tie.Need-loop-holds Inv-loop μ-loop
 loop-holds c = refl
 
-is-active-requires : tie.Need-is-active-requires Inv-loop μ-loop
-is-active-requires c κs = search needs
-
-add-next : tie.Need-add-next Inv-loop μ-loop
-add-next c = search needs
-
-loop-less : tie.Need-loop-less Inv-loop μ-loop
-loop-less c = search needs
-
 loop-again : tie.Need-loop-again Inv-loop μ-loop
 loop-again c = sym (first-miss _ _ _ (c .before .before .if1 .left) (sym (c .before .is-active .ensures) ∙ c .if2 .left)) ∙ c .before .before .before .loop .inv
 
@@ -44,9 +35,9 @@ next-active-spec =
     Inv-loop
     μ-loop
     loop-holds
-    is-active-requires
-    add-next
-    loop-less
+    (λ c κs. search needs)
+    (λ c. search needs)
+    (λ c. search needs)
     loop-again
     returns
     returns-2)

@@ -8,16 +8,10 @@ use Rattle.predicates.specs.Predicate.{active}
 use Rattle.scan.proofs.plokamyr_next_by_elements.Statement.{statement}
 use Rattle.scan.proofs.plokamyr_next_by_elements.Tie as tie
 
-size-of-requires : tie.Need-size-of-requires
-size-of-requires c κs = search needs
-
-next-active-requires : tie.Need-next-active-requires
-next-active-requires c κs = search needs
-
 returns : tie.Need-returns
 returns c =
     let a = c .before .before .args in
     c .next-active .ensures ∙ ap (λ (s : Size). firstFrom (active (shift s) (a .mask)) (a .start) (a .elements)) (c .before .size-of .ensures)
 
 pub plokamyr-next-by-elements-spec : {M : Type 1} → statement M
-plokamyr-next-by-elements-spec = tie.close (tie.spec size-of-requires next-active-requires returns)
+plokamyr-next-by-elements-spec = tie.close (tie.spec (λ c κs. search needs) (λ c κs. search needs) returns)

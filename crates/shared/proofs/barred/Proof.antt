@@ -4,9 +4,6 @@ use Rattle.shared.proofs.Answers.{barred-15, barred-before}
 use Rattle.shared.proofs.barred.Statement.{statement}
 use Rattle.shared.proofs.barred.Tie as tie
 
-stands-after-requires : tie.Need-stands-after-requires
-stands-after-requires c κs = search needs
-
 returns : tie.Need-returns
 returns c = search (barred-15, needs) depth 9
 
@@ -14,4 +11,4 @@ returns-2 : tie.Need-returns-2
 returns-2 c = search (barred-before, needs) depth 9
 
 pub barred-spec : {M : Type 1} → statement M
-barred-spec = tie.close (tie.spec stands-after-requires returns returns-2)
+barred-spec = tie.close (tie.spec (λ c κs. search needs) returns returns-2)

@@ -5,15 +5,9 @@ use Rattle.shared.proofs.Answers.{standing}
 use Rattle.shared.proofs.stands_after.Statement.{statement}
 use Rattle.shared.proofs.stands_after.Tie as tie
 
-is-done-requires : tie.Need-is-done-requires
-is-done-requires c κs = search needs
-
 returns : tie.Need-returns
 unfolding standsAfter
 returns c = search (standing, needs) depth 12
-
-number-requires : tie.Need-number-requires
-number-requires c κs = search needs
 
 returns-2 : tie.Need-returns-2
 unfolding standsAfter
@@ -29,4 +23,4 @@ returns-4 c = search (standing, needs) depth 12
 
 pub stands-after-spec : {M : Type 1} → statement M
 stands-after-spec =
-    tie.close (tie.spec is-done-requires returns number-requires returns-2 returns-3 returns-4)
+    tie.close (tie.spec (λ c κs. search needs) returns (λ c κs. search needs) returns-2 returns-3 returns-4)

@@ -8,30 +8,6 @@ use borrow.Author.Needs.{needs}
 use Rattle.tally.proofs.four_words.Statement.{statement}
 use Rattle.tally.proofs.four_words.Tie as tie
 
-fields-of-requires : tie.Need-fields-of-requires
-fields-of-requires c κs = search needs
-
-fields-of-requires-2 : tie.Need-fields-of-requires-2
-fields-of-requires-2 c κs = search needs
-
-fields-of-requires-3 : tie.Need-fields-of-requires-3
-fields-of-requires-3 c κs = search needs
-
-fields-of-requires-4 : tie.Need-fields-of-requires-4
-fields-of-requires-4 c κs = search needs
-
-low-fields-requires : tie.Need-low-fields-requires
-low-fields-requires c κs = search needs
-
-low-fields-requires-2 : tie.Need-low-fields-requires-2
-low-fields-requires-2 c κs = search needs
-
-low-fields-requires-3 : tie.Need-low-fields-requires-3
-low-fields-requires-3 c κs = search needs
-
-low-fields-requires-4 : tie.Need-low-fields-requires-4
-low-fields-requires-4 c κs = search needs
-
 add-t13 : tie.Need-add-t13
 add-t13 c =
     let g = c .before .before .before .before .before .fields-of3 .result in
@@ -56,13 +32,13 @@ pub four-words-spec : {M : Type 1} → statement M
 four-words-spec =
     tie.close
     (tie.spec
-    fields-of-requires
-    fields-of-requires-2
-    fields-of-requires-3
-    fields-of-requires-4
-    low-fields-requires
-    low-fields-requires-2
-    low-fields-requires-3
-    low-fields-requires-4
+    (λ c κs. search needs)
+    (λ c κs. search needs)
+    (λ c κs. search needs)
+    (λ c κs. search needs)
+    (λ c κs. search needs)
+    (λ c κs. search needs)
+    (λ c κs. search needs)
+    (λ c κs. search needs)
     add-t13
     returns)

@@ -13,25 +13,16 @@ use Rattle.tally.proofs.byte_sum.Reads as byte-sum-reads
 use Rattle.tally.proofs.low.Reads as low-reads
 
 -- src/lib.rt:41:14
-low-requires : tie.Need-low-requires
-low-requires c κs = search needs
-
 -- src/lib.rt:41:23
-low-requires-2 : tie.Need-low-requires-2
-low-requires-2 c κs = search needs
-
 -- src/lib.rt:41:14
 add-byte-sum : tie.Need-add-byte-sum
 add-byte-sum c = omega (arith, c .low2 .ensures, c .before .low .ensures, lows-le (c .before .before .args .x), lows-le (c .before .before .args .x / 16))
 
 -- src/lib.rt:41:5
-byte-sum-requires : tie.Need-byte-sum-requires
-byte-sum-requires c κs = search needs
-
 -- src/lib.rt:38:1
 returns : tie.Need-returns
 returns c = c .byte-sum .ensures ∙ ap₂ (λ (m n : ℕ). byteSum (m + n)) (c .before .before .low .ensures) (c .before .low2 .ensures) ∙ sum-halves (c .before .before .before .args .x) (c .before .before .before .args .x / 16)
 
 pub half-sum-spec : {M : Type 1} → statement M
 half-sum-spec =
-    tie.close (tie.spec low-requires low-requires-2 add-byte-sum byte-sum-requires returns)
+    tie.close (tie.spec (λ c κs. search needs) (λ c κs. search needs) add-byte-sum (λ c κs. search needs) returns)

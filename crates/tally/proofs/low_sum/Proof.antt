@@ -10,16 +10,10 @@ use Rattle.tally.proofs.byte_sum.Reads as byte-sum-reads
 use Rattle.tally.proofs.low.Reads as low-reads
 
 -- src/lib.rt:34:14
-low-requires : tie.Need-low-requires
-low-requires c κs = search needs
-
 -- src/lib.rt:34:5
-byte-sum-requires : tie.Need-byte-sum-requires
-byte-sum-requires c κs = search needs
-
 -- src/lib.rt:31:1
 returns : tie.Need-returns
 returns c = c .byte-sum .ensures ∙ ap byteSum (c .before .low .ensures) ∙ sum-lows (c .before .before .args .x)
 
 pub low-sum-spec : {M : Type 1} → statement M
-low-sum-spec = tie.close (tie.spec low-requires byte-sum-requires returns)
+low-sum-spec = tie.close (tie.spec (λ c κs. search needs) (λ c κs. search needs) returns)

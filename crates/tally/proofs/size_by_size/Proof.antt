@@ -9,26 +9,14 @@ use Rattle.tally.proofs.Within.{elements-small}
 use Rattle.tally.proofs.size_by_size.Statement.{statement}
 use Rattle.tally.proofs.size_by_size.Tie as tie
 
-count-active-requires : tie.Need-count-active-requires
-count-active-requires c κs = search needs
-
 cast-t5 : tie.Need-cast-t5
 cast-t5 c = omega (arith, elements-small (c .before .args .vl) B (c .before .args .p))
-
-count-active-requires-2 : tie.Need-count-active-requires-2
-count-active-requires-2 c κs = search needs
 
 cast-t8 : tie.Need-cast-t8
 cast-t8 c = omega (arith, elements-small (c .before .before .args .vl) H (c .before .before .args .p))
 
-count-active-requires-3 : tie.Need-count-active-requires-3
-count-active-requires-3 c κs = search needs
-
 cast-t11 : tie.Need-cast-t11
 cast-t11 c = omega (arith, elements-small (c .before .before .before .args .vl) S (c .before .before .before .args .p))
-
-count-active-requires-4 : tie.Need-count-active-requires-4
-count-active-requires-4 c κs = search needs
 
 cast-t14 : tie.Need-cast-t14
 cast-t14 c = omega (arith, elements-small (c .before .before .before .before .args .vl) D (c .before .before .before .before .args .p))
@@ -46,12 +34,12 @@ pub size-by-size-spec : {M : Type 1} → statement M
 size-by-size-spec =
     tie.close
     (tie.spec
-    count-active-requires
+    (λ c κs. search needs)
     cast-t5
-    count-active-requires-2
+    (λ c κs. search needs)
     cast-t8
-    count-active-requires-3
+    (λ c κs. search needs)
     cast-t11
-    count-active-requires-4
+    (λ c κs. search needs)
     cast-t14
     returns)

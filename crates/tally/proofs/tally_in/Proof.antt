@@ -14,18 +14,6 @@ below e h = omega arith
 twice : {x y z : ℕ} → x ≡ y + z → y ≤ 120 → z ≤ 120 → x < 256
 twice e h l = omega arith
 
-low-sum-requires : tie.Need-low-sum-requires
-low-sum-requires c κs = search needs
-
-low-sum-requires-2 : tie.Need-low-sum-requires-2
-low-sum-requires-2 c κs = search needs
-
-half-sum-requires : tie.Need-half-sum-requires
-half-sum-requires c κs = search needs
-
-half-sum-requires-2 : tie.Need-half-sum-requires-2
-half-sum-requires-2 c κs = search needs
-
 join-requires : tie.Need-join-requires
 join-requires c κs =
     let x = c .before .before .before .before .before .args .x in (
@@ -35,16 +23,13 @@ join-requires c κs =
       twice (c .half-sum2 .ensures) (lowSum-le (x .odds)) (lowSum-le (x .odds / 16)),
     )
 
-returns : tie.Need-returns
-returns c = search needs
-
 pub tally-in-spec : {M : Type 1} → statement M
 tally-in-spec =
     tie.close
     (tie.spec
-    low-sum-requires
-    low-sum-requires-2
-    half-sum-requires
-    half-sum-requires-2
+    (λ c κs. search needs)
+    (λ c κs. search needs)
+    (λ c κs. search needs)
+    (λ c κs. search needs)
     join-requires
-    returns)
+    (λ c. search needs))

@@ -12,24 +12,6 @@ read-at c = c .before .before .before
 abbrev start : tie.After-read → tie.Start
 start c = c .before .before .before .before .before
 
-read-requires : tie.Need-read-requires
-read-requires c κs = search needs
-
-is-done-requires : tie.Need-is-done-requires
-is-done-requires c κs = search needs
-
-number-requires : tie.Need-number-requires
-number-requires c κs = search needs
-
-image-line-requires : tie.Need-image-line-requires
-image-line-requires c κs = search needs
-
-same-length : tie.Need-same-length
-same-length c = search needs
-
-same-length-2 : tie.Need-same-length-2
-same-length-2 c = search needs
-
 returns : tie.Need-returns
 returns c =
     let l = c .before .before in
@@ -57,12 +39,6 @@ slice-aggregate-word-lines c = part-count _ _ (fine (c .before .before) .room)
 word-lines-requires : tie.Need-word-lines-requires
 word-lines-requires c κs = fine (c .before .before .before) .few
 
-same-length-3 : tie.Need-same-length-3
-same-length-3 c = search needs
-
-same-length-4 : tie.Need-same-length-4
-same-length-4 c = search needs
-
 returns-2 : tie.Need-returns-2
 returns-2 c =
     let w = c .before .before in
@@ -75,16 +51,16 @@ pub transcript-spec : {M : Type 1} → statement M
 transcript-spec =
     tie.close
     (tie.spec
-    read-requires
-    is-done-requires
-    number-requires
-    image-line-requires
-    same-length
-    same-length-2
+    (λ c κs. search needs)
+    (λ c κs. search needs)
+    (λ c κs. search needs)
+    (λ c κs. search needs)
+    (λ c. search needs)
+    (λ c. search needs)
     returns
     slice-reshare-prefix-word-lines
     slice-aggregate-word-lines
     word-lines-requires
-    same-length-3
-    same-length-4
+    (λ c. search needs)
+    (λ c. search needs)
     returns-2)

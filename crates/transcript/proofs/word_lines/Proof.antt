@@ -51,59 +51,14 @@ whole : (h : tie.At-loop Inv-loop μ-loop) (end : ℕ) (last : List ℕ) → let
 whole h end last given =
     from-parts _ _ _ _ _ _ _ last end (flagged h .before .before .settings .ensures) (flagged h .bits-of-flags .ensures) (h .before .before .before .words-of .ensures) (h .before .numbers-of .ensures) given
 
-settings-requires : tie.Need-settings-requires Inv-loop μ-loop
-settings-requires c κs = search needs
-
-bits-of-flags-requires : tie.Need-bits-of-flags-requires Inv-loop μ-loop
-bits-of-flags-requires c κs = search needs
-
-words-of-requires : tie.Need-words-of-requires Inv-loop μ-loop
-words-of-requires c κs = search needs
-
-numbers-of-requires : tie.Need-numbers-of-requires Inv-loop μ-loop
-numbers-of-requires c κs = search needs
-
 loop-holds : tie.Need-loop-holds Inv-loop μ-loop
 loop-holds c = (omega arith, search needs, search needs, search needs, same-start _ _ _)
-
-mul-word : tie.Need-mul-word Inv-loop μ-loop
-mul-word c = search needs
-
-shared-slice-read-word : tie.Need-shared-slice-read-word Inv-loop μ-loop
-shared-slice-read-word c = search needs
-
-slice-aggregate-step : tie.Need-slice-aggregate-step Inv-loop μ-loop
-slice-aggregate-step c = search needs
-
-slice-aggregate-step-2 : tie.Need-slice-aggregate-step-2 Inv-loop μ-loop
-slice-aggregate-step-2 c = search needs
-
-slice-aggregate-step-3 : tie.Need-slice-aggregate-step-3 Inv-loop μ-loop
-slice-aggregate-step-3 c = search needs
-
-step-requires : tie.Need-step-requires Inv-loop μ-loop
-step-requires c κs = search needs
-
-flags-of-requires : tie.Need-flags-of-requires Inv-loop μ-loop
-flags-of-requires c κs = search needs
 
 cast-word-line : tie.Need-cast-word-line Inv-loop μ-loop
 cast-word-line c = omega arith
 
-number-requires : tie.Need-number-requires Inv-loop μ-loop
-number-requires c κs = search needs
-
-word-line-requires : tie.Need-word-line-requires Inv-loop μ-loop
-word-line-requires c κs = search needs
-
-is-done-requires : tie.Need-is-done-requires Inv-loop μ-loop
-is-done-requires c κs = search needs
-
 cast-end-line : tie.Need-cast-end-line Inv-loop μ-loop
 cast-end-line c = omega (arith, few (stepped (lined (c .before))))
-
-end-line-requires : tie.Need-end-line-requires Inv-loop μ-loop
-end-line-requires c κs = search needs
 
 same-length : tie.Need-same-length Inv-loop μ-loop
 same-length c =
@@ -124,17 +79,11 @@ returns c =
 add-done : tie.Need-add-done Inv-loop μ-loop
 add-done c = omega (arith, few (stepped (lined (c .before))))
 
-loop-less : tie.Need-loop-less Inv-loop μ-loop
-loop-less c = search needs
-
 loop-again : tie.Need-loop-again Inv-loop μ-loop
 loop-again c = (omega arith, search needs, search needs, search needs, search (turned, needs) depth 9)
 
 cast-end-line-2 : tie.Need-cast-end-line-2 Inv-loop μ-loop
 cast-end-line-2 c = omega arith
-
-end-line-requires-2 : tie.Need-end-line-requires-2 Inv-loop μ-loop
-end-line-requires-2 c κs = search needs
 
 same-length-2 : tie.Need-same-length-2 Inv-loop μ-loop
 same-length-2 c =
@@ -153,30 +102,30 @@ word-lines-spec =
     (tie.spec
     Inv-loop
     μ-loop
-    settings-requires
-    bits-of-flags-requires
-    words-of-requires
-    numbers-of-requires
+    (λ c κs. search needs)
+    (λ c κs. search needs)
+    (λ c κs. search needs)
+    (λ c κs. search needs)
     loop-holds
-    mul-word
-    shared-slice-read-word
-    slice-aggregate-step
-    slice-aggregate-step-2
-    slice-aggregate-step-3
-    step-requires
-    flags-of-requires
+    (λ c. search needs)
+    (λ c. search needs)
+    (λ c. search needs)
+    (λ c. search needs)
+    (λ c. search needs)
+    (λ c κs. search needs)
+    (λ c κs. search needs)
     cast-word-line
-    number-requires
-    word-line-requires
-    is-done-requires
+    (λ c κs. search needs)
+    (λ c κs. search needs)
+    (λ c κs. search needs)
     cast-end-line
-    end-line-requires
+    (λ c κs. search needs)
     same-length
     returns
     add-done
-    loop-less
+    (λ c. search needs)
     loop-again
     cast-end-line-2
-    end-line-requires-2
+    (λ c κs. search needs)
     same-length-2
     returns-2)

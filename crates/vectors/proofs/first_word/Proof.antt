@@ -4,14 +4,8 @@ use borrow.Author.Needs.{needs}
 use Rattle.vectors.proofs.first_word.Statement.{statement}
 use Rattle.vectors.proofs.first_word.Tie as tie
 
-shared-slice-read-result : tie.Need-shared-slice-read-result
-shared-slice-read-result c = search needs
-
-returns : tie.Need-returns
-returns c = search needs
-
 returns-2 : tie.Need-returns-2
 returns-2 c = search (needs, past-end)
 
 pub first-word-spec : {M : Type 1} → statement M
-first-word-spec = tie.close (tie.spec shared-slice-read-result returns returns-2)
+first-word-spec = tie.close (tie.spec (λ c. search needs) (λ c. search needs) returns-2)

@@ -3,17 +3,8 @@ use borrow.Author.Needs.{needs}
 use Rattle.vectors.proofs.flags_at.Statement.{statement}
 use Rattle.vectors.proofs.flags_at.Tie as tie
 
-byte-requires : tie.Need-byte-requires
-byte-requires c κs = search needs
-
-cast-of : tie.Need-cast-of
-cast-of c = search needs
-
-of-requires : tie.Need-of-requires
-of-requires c κs = search needs
-
 returns : tie.Need-returns
 returns c = cc
 
 pub flags-at-spec : {M : Type 1} → statement M
-flags-at-spec = tie.close (tie.spec byte-requires cast-of of-requires returns)
+flags-at-spec = tie.close (tie.spec (λ c κs. search needs) (λ c. search needs) (λ c κs. search needs) returns)

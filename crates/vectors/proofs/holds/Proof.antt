@@ -4,26 +4,14 @@ use borrow.Author.Needs.{needs}
 use Rattle.vectors.proofs.holds.Statement.{statement}
 use Rattle.vectors.proofs.holds.Tie as tie
 
-run-agrees-requires : tie.Need-run-agrees-requires
-run-agrees-requires c κs = search needs
-
 returns : tie.Need-returns
 returns c = λ h. record { run = λ _. c .run-agrees .ensures h; image = λ k. absurd (omega arith); walk = λ k. absurd (omega arith); step = λ k. absurd (omega arith) }
-
-image-agrees-requires : tie.Need-image-agrees-requires
-image-agrees-requires c κs = search needs
 
 returns-2 : tie.Need-returns-2
 returns-2 c = λ h. record { run = λ k. absurd (omega arith); image = λ _. c .image-agrees .ensures h; walk = λ k. absurd (omega arith); step = λ k. absurd (omega arith) }
 
-walk-agrees-requires : tie.Need-walk-agrees-requires
-walk-agrees-requires c κs = search needs
-
 returns-3 : tie.Need-returns-3
 returns-3 c = λ h. record { run = λ k. absurd (omega arith); image = λ k. absurd (omega arith); walk = λ _. c .walk-agrees .ensures h; step = λ k. absurd (omega arith) }
-
-step-agrees-requires : tie.Need-step-agrees-requires
-step-agrees-requires c κs = search needs
 
 returns-4 : tie.Need-returns-4
 returns-4 c = λ h. record { run = λ k. absurd (omega arith); image = λ k. absurd (omega arith); walk = λ k. absurd (omega arith); step = λ _. c .step-agrees .ensures h }
@@ -32,11 +20,11 @@ pub holds-spec : {M : Type 1} → statement M
 holds-spec =
     tie.close
     (tie.spec
-    run-agrees-requires
+    (λ c κs. search needs)
     returns
-    image-agrees-requires
+    (λ c κs. search needs)
     returns-2
-    walk-agrees-requires
+    (λ c κs. search needs)
     returns-3
-    step-agrees-requires
+    (λ c κs. search needs)
     returns-4)

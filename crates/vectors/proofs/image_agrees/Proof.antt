@@ -5,29 +5,8 @@ use borrow.Author.Needs.{needs}
 use Rattle.vectors.proofs.image_agrees.Statement.{statement}
 use Rattle.vectors.proofs.image_agrees.Tie as tie
 
-after-requires : tie.Need-after-requires
-after-requires c κs = search needs
-
-block-requires : tie.Need-block-requires
-block-requires c κs = search needs
-
-slice-aggregate-read : tie.Need-slice-aggregate-read
-slice-aggregate-read c = search needs
-
-read-requires : tie.Need-read-requires
-read-requires c κs = search needs
-
-number-requires : tie.Need-number-requires
-number-requires c κs = search needs
-
-byte-requires : tie.Need-byte-requires
-byte-requires c κs = search needs
-
 returns : tie.Need-returns
 returns c = never
-
-number-requires-2 : tie.Need-number-requires-2
-number-requires-2 c κs = search needs
 
 returns-2 : tie.Need-returns-2
 returns-2 c =
@@ -36,21 +15,6 @@ returns-2 c =
     λ _.
     image-refused _ _ _ _ _ _ _ _ _ refl (r .before .before .before .after .ensures) (r .before .before .block .ensures) (r .read .ensures .0) (r .read .ensures .1)
     (e .before .before .number .ensures) (e .before .byte .ensures) (e .if1 .left) (c .before .number2 .ensures) (c .if2 .taken)
-
-slice-aggregate-first-words : tie.Need-slice-aggregate-first-words
-slice-aggregate-first-words c = search needs
-
-first-words-requires : tie.Need-first-words-requires
-first-words-requires c κs = search needs
-
-past-block-requires : tie.Need-past-block-requires
-past-block-requires c κs = search needs
-
-block-requires-2 : tie.Need-block-requires-2
-block-requires-2 c κs = search needs
-
-image-is-requires : tie.Need-image-is-requires
-image-is-requires c κs = search needs
 
 returns-3 : tie.Need-returns-3
 returns-3 c =
@@ -68,18 +32,18 @@ pub image-agrees-spec : {M : Type 1} → statement M
 image-agrees-spec =
     tie.close
     (tie.spec
-    after-requires
-    block-requires
-    slice-aggregate-read
-    read-requires
-    number-requires
-    byte-requires
+    (λ c κs. search needs)
+    (λ c κs. search needs)
+    (λ c. search needs)
+    (λ c κs. search needs)
+    (λ c κs. search needs)
+    (λ c κs. search needs)
     returns
-    number-requires-2
+    (λ c κs. search needs)
     returns-2
-    slice-aggregate-first-words
-    first-words-requires
-    past-block-requires
-    block-requires-2
-    image-is-requires
+    (λ c. search needs)
+    (λ c κs. search needs)
+    (λ c κs. search needs)
+    (λ c κs. search needs)
+    (λ c κs. search needs)
     returns-3)

@@ -7,32 +7,11 @@ use Rattle.vectors.proofs.Answers.{never, walk-agrees}
 use Rattle.vectors.proofs.walk_agrees.Statement.{statement}
 use Rattle.vectors.proofs.walk_agrees.Tie as tie
 
-past-block-requires : tie.Need-past-block-requires
-past-block-requires c κs = search needs
-
-number-at-requires : tie.Need-number-at-requires
-number-at-requires c κs = search needs
-
 returns : tie.Need-returns
 returns c = never
 
-block-requires : tie.Need-block-requires
-block-requires c κs = search needs
-
-slice-aggregate-read : tie.Need-slice-aggregate-read
-slice-aggregate-read c = search needs
-
-read-requires : tie.Need-read-requires
-read-requires c κs = search needs
-
-number-requires : tie.Need-number-requires
-number-requires c κs = search needs
-
 returns-2 : tie.Need-returns-2
 returns-2 c = never
-
-array-borrow-prefix-list : tie.Need-array-borrow-prefix-list
-array-borrow-prefix-list c = search needs
 
 slice-aggregate-walk-is : tie.Need-slice-aggregate-walk-is
 slice-aggregate-walk-is c = part-count _ _ (c .before .before .before .before .before .before .before .before .if1 .left)
@@ -55,15 +34,15 @@ pub walk-agrees-spec : {M : Type 1} → statement M
 walk-agrees-spec =
     tie.close
     (tie.spec
-    past-block-requires
-    number-at-requires
+    (λ c κs. search needs)
+    (λ c κs. search needs)
     returns
-    block-requires
-    slice-aggregate-read
-    read-requires
-    number-requires
+    (λ c κs. search needs)
+    (λ c. search needs)
+    (λ c κs. search needs)
+    (λ c κs. search needs)
     returns-2
-    array-borrow-prefix-list
+    (λ c. search needs)
     slice-aggregate-walk-is
     walk-is-requires
     returns-3)

@@ -13,83 +13,23 @@ walked c = c .before .before .before .before .before
 abbrev registers : tie.After-walk → tie.After-register5
 registers c = c .before .before .before
 
-register-requires : tie.Need-register-requires
-register-requires c κs = search needs
-
-register-requires-2 : tie.Need-register-requires-2
-register-requires-2 c κs = search needs
-
-register-requires-3 : tie.Need-register-requires-3
-register-requires-3 c κs = search needs
-
-register-requires-4 : tie.Need-register-requires-4
-register-requires-4 c κs = search needs
-
-register-requires-5 : tie.Need-register-requires-5
-register-requires-5 c κs = search needs
-
-number-at-requires : tie.Need-number-at-requires
-number-at-requires c κs = search needs
-
-walk-requires : tie.Need-walk-requires
-walk-requires c κs = search needs
-
-number-requires : tie.Need-number-requires
-number-requires c κs = search needs
-
-byte-requires : tie.Need-byte-requires
-byte-requires c κs = search needs
-
-same-length : tie.Need-same-length
-same-length c = search needs
-
 returns : tie.Need-returns
 returns c = never
-
-number-at-requires-2 : tie.Need-number-at-requires-2
-number-at-requires-2 c κs = search needs
-
-same-length-2 : tie.Need-same-length-2
-same-length-2 c = search needs
 
 returns-2 : tie.Need-returns-2
 returns-2 c = never
 
-number-at-requires-3 : tie.Need-number-at-requires-3
-number-at-requires-3 c κs = search needs
-
-same-length-3 : tie.Need-same-length-3
-same-length-3 c = search needs
-
 returns-3 : tie.Need-returns-3
 returns-3 c = never
 
-after-requires : tie.Need-after-requires
-after-requires c κs = search needs
-
-block-requires : tie.Need-block-requires
-block-requires c κs = search needs
-
-state-is-requires : tie.Need-state-is-requires
-state-is-requires c κs = search needs
-
-same-length-4 : tie.Need-same-length-4
-same-length-4 c = search needs
-
 returns-4 : tie.Need-returns-4
 returns-4 c = never
-
-past-block-requires : tie.Need-past-block-requires
-past-block-requires c κs = search needs
 
 list-is-requires : tie.Need-list-is-requires
 list-is-requires c κs =
     let e3 = c .before .before .before .before .before .before .before in
     let w = walked (e3 .before .before .before .before .before) in
     omega (arith, w .walk .kept .1 .1 .1 .1 .1 .1 .0, registers w .before .before .before .before .before .before .before .pre)
-
-same-length-5 : tie.Need-same-length-5
-same-length-5 c = search needs
 
 returns-5 : tie.Need-returns-5
 returns-5 c =
@@ -109,29 +49,29 @@ pub walk-is-spec : {M : Type 1} → statement M
 walk-is-spec =
     tie.close
     (tie.spec
-    register-requires
-    register-requires-2
-    register-requires-3
-    register-requires-4
-    register-requires-5
-    number-at-requires
-    walk-requires
-    number-requires
-    byte-requires
-    same-length
+    (λ c κs. search needs)
+    (λ c κs. search needs)
+    (λ c κs. search needs)
+    (λ c κs. search needs)
+    (λ c κs. search needs)
+    (λ c κs. search needs)
+    (λ c κs. search needs)
+    (λ c κs. search needs)
+    (λ c κs. search needs)
+    (λ c. search needs)
     returns
-    number-at-requires-2
-    same-length-2
+    (λ c κs. search needs)
+    (λ c. search needs)
     returns-2
-    number-at-requires-3
-    same-length-3
+    (λ c κs. search needs)
+    (λ c. search needs)
     returns-3
-    after-requires
-    block-requires
-    state-is-requires
-    same-length-4
+    (λ c κs. search needs)
+    (λ c κs. search needs)
+    (λ c κs. search needs)
+    (λ c. search needs)
     returns-4
-    past-block-requires
+    (λ c κs. search needs)
     list-is-requires
-    same-length-5
+    (λ c. search needs)
     returns-5)

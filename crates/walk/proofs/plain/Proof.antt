@@ -65,77 +65,17 @@ within c =
     subst (λ (z : Size). Within z (a .n) (a .m) (a .d) (a .k) (a .start) (now (a .list))) (sym (c .before .before .size-of .ensures))
     (accepted-within (a .size) (a .n) (a .m) (a .d) (a .k) (a .start) (now (a .list)) (typed (entry c)) (entry c .pre))
 
-size-of-requires : tie.Need-size-of-requires Inv-loop μ-loop
-size-of-requires c κs = search needs
-
-elements-requires : tie.Need-elements-requires Inv-loop μ-loop
-elements-requires c κs = search needs
-
-live-requires : tie.Need-live-requires Inv-loop μ-loop
-live-requires c κs = search needs
-
-read-x-requires : tie.Need-read-x-requires Inv-loop μ-loop
-read-x-requires c κs = search needs
-
-read-x-requires-2 : tie.Need-read-x-requires-2 Inv-loop μ-loop
-read-x-requires-2 c κs = search needs
-
-read-p-requires : tie.Need-read-p-requires Inv-loop μ-loop
-read-p-requires c κs = search needs
-
-read-p-requires-2 : tie.Need-read-p-requires-2 Inv-loop μ-loop
-read-p-requires-2 c κs = search needs
-
 loop-holds : tie.Need-loop-holds Inv-loop μ-loop
 loop-holds c = first-turn (entry (c .before .before .before .before .before) .args .budget) (within (c .before .before .before .before .before)) (c .before .before .before .read-x2 .ensures) (c .before .before .read-p .ensures) (c .before .read-p2 .ensures)
 
 enum-told : tie.Need-enum-told Inv-loop μ-loop
 enum-told c = c .match .keys1
 
-none-requires : tie.Need-none-requires Inv-loop μ-loop
-none-requires c κs = search needs
-
 enum-told-2 : tie.Need-enum-told-2 Inv-loop μ-loop
 enum-told-2 c = c .match .keys2
 
-held-requires : tie.Need-held-requires Inv-loop μ-loop
-held-requires c κs = search needs
-
-first-requires : tie.Need-first-requires Inv-loop μ-loop
-first-requires c κs = search needs
-
-while-flags-requires : tie.Need-while-flags-requires Inv-loop μ-loop
-while-flags-requires c κs = search needs
-
-of-requires : tie.Need-of-requires Inv-loop μ-loop
-of-requires c κs = search needs
-
-and-requires : tie.Need-and-requires Inv-loop μ-loop
-and-requires c κs = search needs
-
-lowest-requires : tie.Need-lowest-requires Inv-loop μ-loop
-lowest-requires c κs = search needs
-
-after-highest-requires : tie.Need-after-highest-requires Inv-loop μ-loop
-after-highest-requires c κs = search needs
-
-and-requires-2 : tie.Need-and-requires-2 Inv-loop μ-loop
-and-requires-2 c κs = search needs
-
-end-element-requires : tie.Need-end-element-requires Inv-loop μ-loop
-end-element-requires c κs = search needs
-
 enum-told-3 : tie.Need-enum-told-3 Inv-loop μ-loop
 enum-told-3 c = c .match .keys3
-
-next-active-requires : tie.Need-next-active-requires Inv-loop μ-loop
-next-active-requires c κs = search needs
-
-none-requires-2 : tie.Need-none-requires-2 Inv-loop μ-loop
-none-requires-2 c κs = search needs
-
-shift-requires : tie.Need-shift-requires Inv-loop μ-loop
-shift-requires c κs = search needs
 
 shl-b : tie.Need-shl-b Inv-loop μ-loop
 shl-b c = omega (arith, c .shift .ensures, shift-lt (size-at (prepared (found-in c))))
@@ -147,18 +87,12 @@ bit-is c =
     let h = prepared (found-in c) in
     bit-at (entry h .args .start .vl) (size-at h) (c .shift .ensures) (h .before .elements .ensures) (c .before .if2 .left)
 
-only-element-requires : tie.Need-only-element-requires Inv-loop μ-loop
-only-element-requires c κs = search needs
-
 add-t36 : tie.Need-add-t36 Inv-loop μ-loop
 add-t36 c =
     let f = searched (c .before) in
     let h = prepared (head (turning f)) in
     let vl = entry h .args .start .vl in
     omega (arith, bit-is (c .before), in-bits (shift (size-at h)) (elements vl (size-at h)) (f .next-active .result) (omega (arith, c .before .before .if2 .left, h .before .elements .ensures)) (elements-fit vl (size-at h)))
-
-wrapping-add-u64-requires : tie.Need-wrapping-add-u64-requires Inv-loop μ-loop
-wrapping-add-u64-requires c κs = search needs
 
 -- the list has a place for its position
 in-list : (c : tie.After-wrapping-add-u64 Inv-loop μ-loop) → let h = found-in (c .before .before) in h .loop .visited < length (h .loop .list)
@@ -188,15 +122,6 @@ add-next c =
 
 enum-told-4 : tie.Need-enum-told-4 Inv-loop μ-loop
 enum-told-4 c = c .match .keys4
-
-and-requires-3 : tie.Need-and-requires-3 Inv-loop μ-loop
-and-requires-3 c κs = search needs
-
-count-requires : tie.Need-count-requires Inv-loop μ-loop
-count-requires c κs = search needs
-
-wrapping-add-u64-requires-2 : tie.Need-wrapping-add-u64-requires-2 Inv-loop μ-loop
-wrapping-add-u64-requires-2 c κs = search needs
 
 add-count : tie.Need-add-count Inv-loop μ-loop
 add-count c = omega arith
@@ -228,21 +153,6 @@ loop-again c =
     (turn-incp g b goes left (x .1 .given .1) (p .live .ensures) (x .2 .ensures) (x .3 .ensures) (x .4 .ensures))))))
     (c .match .came)
 
-with-x-requires : tie.Need-with-x-requires Inv-loop μ-loop
-with-x-requires c κs = search needs
-
-with-p-requires : tie.Need-with-p-requires Inv-loop μ-loop
-with-p-requires c κs = search needs
-
-with-p-requires-2 : tie.Need-with-p-requires-2 Inv-loop μ-loop
-with-p-requires-2 c κs = search needs
-
-with-flags-requires : tie.Need-with-flags-requires Inv-loop μ-loop
-with-flags-requires c κs = search needs
-
-answer-requires : tie.Need-answer-requires Inv-loop μ-loop
-answer-requires c κs = search needs
-
 same-length : tie.Need-same-length Inv-loop μ-loop
 same-length c = let h = last c in list-kept (within (prepared h)) (h .loop .inv)
 
@@ -260,49 +170,49 @@ plain-spec =
     (tie.spec
     Inv-loop
     μ-loop
-    size-of-requires
-    elements-requires
-    live-requires
-    read-x-requires
-    read-x-requires-2
-    read-p-requires
-    read-p-requires-2
+    (λ c κs. search needs)
+    (λ c κs. search needs)
+    (λ c κs. search needs)
+    (λ c κs. search needs)
+    (λ c κs. search needs)
+    (λ c κs. search needs)
+    (λ c κs. search needs)
     loop-holds
     enum-told
-    none-requires
+    (λ c κs. search needs)
     enum-told-2
-    held-requires
-    first-requires
-    while-flags-requires
-    of-requires
-    and-requires
-    lowest-requires
-    after-highest-requires
-    and-requires-2
-    end-element-requires
+    (λ c κs. search needs)
+    (λ c κs. search needs)
+    (λ c κs. search needs)
+    (λ c κs. search needs)
+    (λ c κs. search needs)
+    (λ c κs. search needs)
+    (λ c κs. search needs)
+    (λ c κs. search needs)
+    (λ c κs. search needs)
     enum-told-3
-    next-active-requires
-    none-requires-2
-    shift-requires
+    (λ c κs. search needs)
+    (λ c κs. search needs)
+    (λ c κs. search needs)
     shl-b
-    only-element-requires
+    (λ c κs. search needs)
     add-t36
-    wrapping-add-u64-requires
+    (λ c κs. search needs)
     mul-list
     slice-write-list
     add-visited
     add-next
     enum-told-4
-    and-requires-3
-    count-requires
-    wrapping-add-u64-requires-2
+    (λ c κs. search needs)
+    (λ c κs. search needs)
+    (λ c κs. search needs)
     add-count
     loop-less
     loop-again
-    with-x-requires
-    with-p-requires
-    with-p-requires-2
-    with-flags-requires
-    answer-requires
+    (λ c κs. search needs)
+    (λ c κs. search needs)
+    (λ c κs. search needs)
+    (λ c κs. search needs)
+    (λ c κs. search needs)
     same-length
     returns)

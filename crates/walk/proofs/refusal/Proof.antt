@@ -5,15 +5,9 @@ use Rattle.walk.proofs.Outcomes.{refusing}
 use Rattle.walk.proofs.refusal.Statement.{statement}
 use Rattle.walk.proofs.refusal.Tie as tie
 
-is-legal-requires : tie.Need-is-legal-requires
-is-legal-requires c κs = search needs
-
 returns : tie.Need-returns
 unfolding refusalOf
 returns c = search (refusing, needs) depth 12
-
-bad-registers-requires : tie.Need-bad-registers-requires
-bad-registers-requires c κs = search needs
 
 returns-2 : tie.Need-returns-2
 unfolding refusalOf
@@ -27,18 +21,9 @@ returns-4 : tie.Need-returns-4
 unfolding refusalOf
 returns-4 c = search (refusing, needs) depth 12
 
-x-at-requires : tie.Need-x-at-requires
-x-at-requires c κs = search needs
-
-x-at-requires-2 : tie.Need-x-at-requires-2
-x-at-requires-2 c κs = search needs
-
 returns-5 : tie.Need-returns-5
 unfolding refusalOf
 returns-5 c = search (refusing, needs) depth 12
-
-sub-if6 : tie.Need-sub-if6
-sub-if6 c = search needs
 
 returns-6 : tie.Need-returns-6
 unfolding refusalOf
@@ -52,15 +37,15 @@ pub refusal-spec : {M : Type 1} → statement M
 refusal-spec =
     tie.close
     (tie.spec
-    is-legal-requires
+    (λ c κs. search needs)
     returns
-    bad-registers-requires
+    (λ c κs. search needs)
     returns-2
     returns-3
     returns-4
-    x-at-requires
-    x-at-requires-2
+    (λ c κs. search needs)
+    (λ c κs. search needs)
     returns-5
-    sub-if6
+    (λ c. search needs)
     returns-6
     returns-7)

@@ -17,12 +17,6 @@ passed c = c .before .before .before .before
 typed : (st : tie.Start) → Typed (st .args .state)
 typed st = record { xs = search needs; ps = search (needs, length-mapped); cs = search (needs, length-mapped); fits = search (needs, x-fits) }
 
-refusal-requires : tie.Need-refusal-requires
-refusal-requires c κs = search needs
-
-is-done-requires : tie.Need-is-done-requires
-is-done-requires c κs = search needs
-
 returns : tie.Need-returns
 returns c =
     let a = entry (c .before) .args in
@@ -30,9 +24,6 @@ returns c =
 
 plain-requires : tie.Need-plain-requires
 plain-requires c κs = search (not-refused, needs) depth 9
-
-same-length : tie.Need-same-length
-same-length c = search needs
 
 returns-2 : tie.Need-returns-2
 returns-2 c =
@@ -46,4 +37,4 @@ returns-2 c =
 pub walk-spec : {M : Type 1} → statement M
 walk-spec =
     tie.close
-    (tie.spec refusal-requires is-done-requires returns plain-requires same-length returns-2)
+    (tie.spec (λ c κs. search needs) (λ c κs. search needs) returns plain-requires (λ c. search needs) returns-2)

@@ -5,15 +5,9 @@ use borrow.Author.Needs.{needs}
 use Rattle.image.proofs.reader.blank.Statement.{statement}
 use Rattle.image.proofs.reader.blank.Tie as tie
 
-none-requires : tie.Need-none-requires
-none-requires c κs = search needs
-
-new-requires : tie.Need-new-requires
-new-requires c κs = search needs
-
 returns : tie.Need-returns
 unfolding blank
 returns c = c .new .ensures ∙ rw (c .before .none .ensures)
 
 pub blank-spec : {M : Type 1} → statement M
-blank-spec = tie.close (tie.spec none-requires new-requires returns)
+blank-spec = tie.close (tie.spec (λ c κs. search needs) (λ c κs. search needs) returns)

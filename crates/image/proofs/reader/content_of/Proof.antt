@@ -5,14 +5,8 @@ use borrow.Author.Needs.{needs}
 use Rattle.image.proofs.reader.content_of.Statement.{statement}
 use Rattle.image.proofs.reader.content_of.Tie as tie
 
-start-of-requires : tie.Need-start-of-requires
-start-of-requires c κs = search needs
-
-after-requires : tie.Need-after-requires
-after-requires c κs = search needs
-
 returns : tie.Need-returns
 returns c = c .after .ensures ∙ ap (drop 4) (c .before .start-of .ensures)
 
 pub content-of-spec : {M : Type 1} → statement M
-content-of-spec = tie.close (tie.spec start-of-requires after-requires returns)
+content-of-spec = tie.close (tie.spec (λ c κs. search needs) (λ c κs. search needs) returns)

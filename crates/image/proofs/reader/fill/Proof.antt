@@ -19,26 +19,14 @@ abbrev μ-loop : tie.MeasureT-loop
 loop-holds : tie.Need-loop-holds Inv-loop μ-loop
 loop-holds c = (omega arith, (refl, turn-start value 4 _ _ _))
 
-mul-number-at : tie.Need-mul-number-at Inv-loop μ-loop
-mul-number-at c = search needs
-
-number-at-requires : tie.Need-number-at-requires Inv-loop μ-loop
-number-at-requires c κs = search needs
-
 cast-list : tie.Need-cast-list Inv-loop μ-loop
 cast-list c =
     let l = c .before .before in
     let bs = l .before .before .before .args .content .now in
     record { fits = part-lt bs _ _ (l .loop .i * 4) 4 (bytes-of bs (l .before .before .shared-slice-known .given)) refl (c .number-at .ensures) }
 
-mul-list : tie.Need-mul-list Inv-loop μ-loop
-mul-list c = search needs
-
 slice-write-list : tie.Need-slice-write-list Inv-loop μ-loop
 slice-write-list c = omega arith
-
-add-i : tie.Need-add-i Inv-loop μ-loop
-add-i c = search needs
 
 loop-less : tie.Need-loop-less Inv-loop μ-loop
 loop-less c = omega arith
@@ -61,12 +49,12 @@ fill-spec =
     Inv-loop
     μ-loop
     loop-holds
-    mul-number-at
-    number-at-requires
+    (λ c. search needs)
+    (λ c κs. search needs)
     cast-list
-    mul-list
+    (λ c. search needs)
     slice-write-list
-    add-i
+    (λ c. search needs)
     loop-less
     loop-again
     same-length

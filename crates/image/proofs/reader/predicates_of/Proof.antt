@@ -24,23 +24,8 @@ loop-holds c = (omega arith, (refl, turn-start predicateOf _ _ 16 _))
 mul-after : tie.Need-mul-after Inv-loop μ-loop
 mul-after c = omega (arith, small (c .before .loop .i) (c .before .before .before .args .size) (omega arith) (omega arith))
 
-after-requires : tie.Need-after-requires Inv-loop μ-loop
-after-requires c κs = search needs
-
-first-requires : tie.Need-first-requires Inv-loop μ-loop
-first-requires c κs = search needs
-
-predicate-of-requires : tie.Need-predicate-of-requires Inv-loop μ-loop
-predicate-of-requires c κs = search needs
-
-mul-p : tie.Need-mul-p Inv-loop μ-loop
-mul-p c = search needs
-
 array-set-from-p : tie.Need-array-set-from-p Inv-loop μ-loop
 array-set-from-p c = omega arith
-
-add-i : tie.Need-add-i Inv-loop μ-loop
-add-i c = search needs
 
 loop-less : tie.Need-loop-less Inv-loop μ-loop
 loop-less c = omega arith
@@ -65,12 +50,12 @@ predicates-of-spec =
     μ-loop
     loop-holds
     mul-after
-    after-requires
-    first-requires
-    predicate-of-requires
-    mul-p
+    (λ c κs. search needs)
+    (λ c κs. search needs)
+    (λ c κs. search needs)
+    (λ c. search needs)
     array-set-from-p
-    add-i
+    (λ c. search needs)
     loop-less
     loop-again
     returns)

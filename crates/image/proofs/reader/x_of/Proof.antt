@@ -19,20 +19,8 @@ abbrev μ-loop : tie.MeasureT-loop
 loop-holds : tie.Need-loop-holds Inv-loop μ-loop
 loop-holds c = (omega arith, (refl, turn-start value 8 _ 31 _ ∙ sets-all _ _ 31 refl (length-parts value 8 31 _)))
 
-mul-number-at : tie.Need-mul-number-at Inv-loop μ-loop
-mul-number-at c = search needs
-
-number-at-requires : tie.Need-number-at-requires Inv-loop μ-loop
-number-at-requires c κs = search needs
-
-mul-x : tie.Need-mul-x Inv-loop μ-loop
-mul-x c = search needs
-
 array-write-x : tie.Need-array-write-x Inv-loop μ-loop
 array-write-x c = omega arith
-
-add-i : tie.Need-add-i Inv-loop μ-loop
-add-i c = search needs
 
 loop-less : tie.Need-loop-less Inv-loop μ-loop
 loop-less c = omega arith
@@ -52,11 +40,11 @@ x-of-spec =
     Inv-loop
     μ-loop
     loop-holds
-    mul-number-at
-    number-at-requires
-    mul-x
+    (λ c. search needs)
+    (λ c κs. search needs)
+    (λ c. search needs)
     array-write-x
-    add-i
+    (λ c. search needs)
     loop-less
     loop-again
     returns)

@@ -9,17 +9,8 @@ use Rattle.image.proofs.sections.after_section.Tie as tie
 most : (c : tie.After-count-of) → c .count-of .result * c .before .shape-of .result .item ≤ 4294967296 * 510
 most c = content-fits _ _ _ 4294967296 _ (c .before .before .before .before .before .pre) (c .before .shape-of .ensures) (omega arith)
 
-is-missing-requires : tie.Need-is-missing-requires
-is-missing-requires c κs = search needs
-
 returns : tie.Need-returns
 returns c = search (needs, after-missing)
-
-shape-of-requires : tie.Need-shape-of-requires
-shape-of-requires c κs = search needs
-
-count-of-requires : tie.Need-count-of-requires
-count-of-requires c κs = search needs
 
 mul-after : tie.Need-mul-after
 mul-after c = omega (arith, most (c .before))
@@ -27,13 +18,10 @@ mul-after c = omega (arith, most (c .before))
 add-after : tie.Need-add-after
 add-after c = omega (arith, most (c .before))
 
-after-requires : tie.Need-after-requires
-after-requires c κs = search needs
-
 returns-2 : tie.Need-returns-2
 returns-2 c = search (needs, after-is)
 
 pub after-section-spec : {M : Type 1} → statement M
 after-section-spec =
     tie.close
-    (tie.spec is-missing-requires returns shape-of-requires count-of-requires mul-after add-after after-requires returns-2)
+    (tie.spec (λ c κs. search needs) returns (λ c κs. search needs) (λ c κs. search needs) mul-after add-after (λ c κs. search needs) returns-2)

@@ -20,17 +20,8 @@ loop-holds : tie.Need-loop-holds Inv-loop μ-loop
 unfolding some
 loop-holds c = (omega arith, refl)
 
-byte-requires : tie.Need-byte-requires Inv-loop μ-loop
-byte-requires c κs = search needs
-
-is-allowed-requires : tie.Need-is-allowed-requires Inv-loop μ-loop
-is-allowed-requires c κs = search needs
-
 returns : tie.Need-returns Inv-loop μ-loop
 returns c = search (needs, wrong-hit)
-
-add-i : tie.Need-add-i Inv-loop μ-loop
-add-i c = search needs
 
 loop-less : tie.Need-loop-less Inv-loop μ-loop
 loop-less c = omega arith
@@ -48,10 +39,10 @@ has-wrong-spec =
     Inv-loop
     μ-loop
     loop-holds
-    byte-requires
-    is-allowed-requires
+    (λ c κs. search needs)
+    (λ c κs. search needs)
     returns
-    add-i
+    (λ c. search needs)
     loop-less
     loop-again
     returns-2)

@@ -4,9 +4,6 @@ use borrow.Author.Needs.{needs}
 use Rattle.image.proofs.sections.is_allowed.Statement.{statement}
 use Rattle.image.proofs.sections.is_allowed.Tie as tie
 
-is-setting-requires : tie.Need-is-setting-requires
-is-setting-requires c κs = search needs
-
 returns : tie.Need-returns
 returns c = search (needs, setting-byte)
 
@@ -17,4 +14,4 @@ returns-3 : tie.Need-returns-3
 returns-3 c = search (needs, any-byte)
 
 pub is-allowed-spec : {M : Type 1} → statement M
-is-allowed-spec = tie.close (tie.spec is-setting-requires returns returns-2 returns-3)
+is-allowed-spec = tie.close (tie.spec (λ c κs. search needs) returns returns-2 returns-3)

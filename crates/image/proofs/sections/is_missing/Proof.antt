@@ -4,14 +4,8 @@ use borrow.Author.Needs.{needs}
 use Rattle.image.proofs.sections.is_missing.Statement.{statement}
 use Rattle.image.proofs.sections.is_missing.Tie as tie
 
-shape-of-requires : tie.Need-shape-of-requires
-shape-of-requires c κs = search needs
-
-count-of-requires : tie.Need-count-of-requires
-count-of-requires c κs = search needs
-
 returns : tie.Need-returns
 returns c = search (needs, missing-is)
 
 pub is-missing-spec : {M : Type 1} → statement M
-is-missing-spec = tie.close (tie.spec shape-of-requires count-of-requires returns)
+is-missing-spec = tie.close (tie.spec (λ c κs. search needs) (λ c κs. search needs) returns)

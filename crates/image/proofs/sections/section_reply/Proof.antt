@@ -16,17 +16,8 @@ most c = content-most _ _ _ _ (counted c .before .before .before .before .before
 returns : tie.Need-returns
 returns c = search (needs, fault-cut)
 
-is-missing-requires : tie.Need-is-missing-requires
-is-missing-requires c κs = search needs
-
 returns-2 : tie.Need-returns-2
 returns-2 c = search (needs, fault-missing)
-
-shape-of-requires : tie.Need-shape-of-requires
-shape-of-requires c κs = search needs
-
-count-of-requires : tie.Need-count-of-requires
-count-of-requires c κs = search needs
 
 returns-3 : tie.Need-returns-3
 returns-3 c = search (needs, fault-low)
@@ -43,12 +34,6 @@ add-if5 c = omega (arith, most (c .before))
 returns-5 : tie.Need-returns-5
 returns-5 c = search (needs, fault-short) depth 9
 
-after-requires : tie.Need-after-requires
-after-requires c κs = search needs
-
-has-wrong-requires : tie.Need-has-wrong-requires
-has-wrong-requires c κs = search needs
-
 returns-6 : tie.Need-returns-6
 returns-6 c = search (needs, fault-wrong) depth 9
 
@@ -60,16 +45,16 @@ section-reply-spec =
     tie.close
     (tie.spec
     returns
-    is-missing-requires
+    (λ c κs. search needs)
     returns-2
-    shape-of-requires
-    count-of-requires
+    (λ c κs. search needs)
+    (λ c κs. search needs)
     returns-3
     returns-4
     mul-bytes
     add-if5
     returns-5
-    after-requires
-    has-wrong-requires
+    (λ c κs. search needs)
+    (λ c κs. search needs)
     returns-6
     returns-7)

@@ -15,26 +15,11 @@ Inv-loop image vl rest₀ i₀ rest i = (i ≤ 6) × (sectionsReply (drop i (sec
 abbrev μ-loop : tie.MeasureT-loop
 μ-loop image vl rest₀ i₀ rest i = 6 - i
 
-vector-length-requires : tie.Need-vector-length-requires Inv-loop μ-loop
-vector-length-requires c κs = search needs
-
 loop-holds : tie.Need-loop-holds Inv-loop μ-loop
 loop-holds c = (omega arith, refl)
 
-section-reply-requires : tie.Need-section-reply-requires Inv-loop μ-loop
-section-reply-requires c κs = search needs
-
-is-done-requires : tie.Need-is-done-requires Inv-loop μ-loop
-is-done-requires c κs = search needs
-
 returns : tie.Need-returns Inv-loop μ-loop
 returns c = search (needs, reply-left, refused-here) depth 9
-
-after-section-requires : tie.Need-after-section-requires Inv-loop μ-loop
-after-section-requires c κs = search needs
-
-add-i : tie.Need-add-i Inv-loop μ-loop
-add-i c = search needs
 
 loop-less : tie.Need-loop-less Inv-loop μ-loop
 loop-less c = omega arith
@@ -54,13 +39,13 @@ sections-reply-spec =
     (tie.spec
     Inv-loop
     μ-loop
-    vector-length-requires
+    (λ c κs. search needs)
     loop-holds
-    section-reply-requires
-    is-done-requires
+    (λ c κs. search needs)
+    (λ c κs. search needs)
     returns
-    after-section-requires
-    add-i
+    (λ c κs. search needs)
+    (λ c. search needs)
     loop-less
     loop-again
     returns-2

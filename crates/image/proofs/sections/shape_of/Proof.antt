@@ -4,20 +4,11 @@ use borrow.Author.Needs.{needs}
 use Rattle.image.proofs.sections.shape_of.Statement.{statement}
 use Rattle.image.proofs.sections.shape_of.Tie as tie
 
-fixed-requires : tie.Need-fixed-requires
-fixed-requires c κs = search needs
-
 returns : tie.Need-returns
 returns c = search (needs, settings-shape)
 
-fixed-requires-2 : tie.Need-fixed-requires-2
-fixed-requires-2 c κs = search needs
-
 returns-2 : tie.Need-returns-2
 returns-2 c = search (needs, x-shape)
-
-fixed-requires-3 : tie.Need-fixed-requires-3
-fixed-requires-3 c κs = search needs
 
 returns-3 : tie.Need-returns-3
 returns-3 c = search (needs, p-shape)
@@ -25,17 +16,11 @@ returns-3 c = search (needs, p-shape)
 returns-4 : tie.Need-returns-4
 returns-4 c = search (needs, ffr-shape)
 
-fixed-requires-4 : tie.Need-fixed-requires-4
-fixed-requires-4 c κs = search needs
-
 returns-5 : tie.Need-returns-5
 returns-5 c = search (needs, flags-shape)
 
 returns-6 : tie.Need-returns-6
 returns-6 c = search (needs, words-shape)
-
-fixed-requires-5 : tie.Need-fixed-requires-5
-fixed-requires-5 c κs = search needs
 
 returns-7 : tie.Need-returns-7
 returns-7 c = search (needs, past-shape)
@@ -44,15 +29,15 @@ pub shape-of-spec : {M : Type 1} → statement M
 shape-of-spec =
     tie.close
     (tie.spec
-    fixed-requires
+    (λ c κs. search needs)
     returns
-    fixed-requires-2
+    (λ c κs. search needs)
     returns-2
-    fixed-requires-3
+    (λ c κs. search needs)
     returns-3
     returns-4
-    fixed-requires-4
+    (λ c κs. search needs)
     returns-5
     returns-6
-    fixed-requires-5
+    (λ c κs. search needs)
     returns-7)

@@ -14,18 +14,9 @@ Inv-loop image section vl rest₀ i₀ rest i = (i ≤ section) × (rest ≡ sta
 abbrev μ-loop : tie.MeasureT-loop
 μ-loop image section vl rest₀ i₀ rest i = section - i
 
-vector-length-requires : tie.Need-vector-length-requires Inv-loop μ-loop
-vector-length-requires c κs = search needs
-
 loop-holds : tie.Need-loop-holds Inv-loop μ-loop
 unfolding startOf
 loop-holds c = (omega arith, refl)
-
-after-section-requires : tie.Need-after-section-requires Inv-loop μ-loop
-after-section-requires c κs = search needs
-
-add-i : tie.Need-add-i Inv-loop μ-loop
-add-i c = search needs
 
 loop-less : tie.Need-loop-less Inv-loop μ-loop
 loop-less c = omega arith
@@ -42,10 +33,10 @@ start-of-spec =
     (tie.spec
     Inv-loop
     μ-loop
-    vector-length-requires
+    (λ c κs. search needs)
     loop-holds
-    after-section-requires
-    add-i
+    (λ c κs. search needs)
+    (λ c. search needs)
     loop-less
     loop-again
     returns)

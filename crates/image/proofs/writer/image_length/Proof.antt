@@ -22,12 +22,6 @@ mul-length c = omega arith
 loop-holds : tie.Need-loop-holds Inv-loop μ-loop
 loop-holds c = (omega arith, (omega arith, length-start _ _))
 
-sub-i : tie.Need-sub-i Inv-loop μ-loop
-sub-i c = search needs
-
-shape-of-requires : tie.Need-shape-of-requires Inv-loop μ-loop
-shape-of-requires c κs = search needs
-
 mul-length-2 : tie.Need-mul-length-2 Inv-loop μ-loop
 mul-length-2 c = omega (arith, most (c .before))
 
@@ -54,8 +48,8 @@ image-length-spec =
     μ-loop
     mul-length
     loop-holds
-    sub-i
-    shape-of-requires
+    (λ c. search needs)
+    (λ c κs. search needs)
     mul-length-2
     add-length
     add-length-2

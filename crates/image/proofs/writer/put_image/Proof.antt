@@ -38,20 +38,8 @@ ok c = record { xs = search needs; ps = search (needs, length-mapped); cs = sear
 room : (c : tie.Start) → (4 + 3 * 1) + ((4 + 31 * 8) + ((4 + 16 * (c .args .state .vl / 64)) + ((4 + 1 * (c .args .state .vl / 64)) + ((4 + 4 * 1) + (4 + length (c .args .words .now) * 4))))) ≤ length (c .args .image .now)
 room c = let e = image-bytes (c .args .state) (ok c) (c .args .words .now) in omega (arith, c .pre .1 .1)
 
-cast-t17 : tie.Need-cast-t17
-cast-t17 c = search needs
-
-bit-requires : tie.Need-bit-requires
-bit-requires c κs = search needs
-
-slice-aggregate-put-numbers : tie.Need-slice-aggregate-put-numbers
-slice-aggregate-put-numbers c = search needs
-
 put-numbers-requires : tie.Need-put-numbers-requires
 put-numbers-requires c κs = let r = room (c .before .before .before .before .before .before) in (lit≤ tt, omega arith)
-
-slice-aggregate-put-numbers-2 : tie.Need-slice-aggregate-put-numbers-2
-slice-aggregate-put-numbers-2 c = search needs
 
 put-numbers-requires-2 : tie.Need-put-numbers-requires-2
 put-numbers-requires-2 c κs =
@@ -77,21 +65,6 @@ put-predicates-requires-2 c κs =
     let n = ok (start s) .xs in
     let v = legal-vl _ (start s .pre .0) in
     (omega arith, (lit≤ tt, omega (arith, p .put-predicates .ensures .0, xs p .put-numbers2 .ensures .0, s .put-numbers .ensures .0)))
-
-bit-requires-2 : tie.Need-bit-requires-2
-bit-requires-2 c κs = search needs
-
-bit-requires-3 : tie.Need-bit-requires-3
-bit-requires-3 c κs = search needs
-
-bit-requires-4 : tie.Need-bit-requires-4
-bit-requires-4 c κs = search needs
-
-bit-requires-5 : tie.Need-bit-requires-5
-bit-requires-5 c κs = search needs
-
-slice-aggregate-put-numbers-3 : tie.Need-slice-aggregate-put-numbers-3
-slice-aggregate-put-numbers-3 c = search needs
 
 put-numbers-requires-3 : tie.Need-put-numbers-requires-3
 put-numbers-requires-3 c κs =
@@ -138,19 +111,19 @@ pub put-image-spec : {M : Type 1} → statement M
 put-image-spec =
     tie.close
     (tie.spec
-    cast-t17
-    bit-requires
-    slice-aggregate-put-numbers
+    (λ c. search needs)
+    (λ c κs. search needs)
+    (λ c. search needs)
     put-numbers-requires
-    slice-aggregate-put-numbers-2
+    (λ c. search needs)
     put-numbers-requires-2
     put-predicates-requires
     put-predicates-requires-2
-    bit-requires-2
-    bit-requires-3
-    bit-requires-4
-    bit-requires-5
-    slice-aggregate-put-numbers-3
+    (λ c κs. search needs)
+    (λ c κs. search needs)
+    (λ c κs. search needs)
+    (λ c κs. search needs)
+    (λ c. search needs)
     put-numbers-requires-3
     put-words-requires
     same-length

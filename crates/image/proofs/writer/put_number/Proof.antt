@@ -19,17 +19,8 @@ abbrev μ-loop : tie.MeasureT-loop
 loop-holds : tie.Need-loop-holds Inv-loop μ-loop
 loop-holds c = (omega arith, (le-start _ _ _ _, refl))
 
-cast-image : tie.Need-cast-image Inv-loop μ-loop
-cast-image c = search needs
-
-add-image : tie.Need-add-image Inv-loop μ-loop
-add-image c = search needs
-
 slice-write-image : tie.Need-slice-write-image Inv-loop μ-loop
 slice-write-image c = omega arith
-
-add-i : tie.Need-add-i Inv-loop μ-loop
-add-i c = search needs
 
 loop-less : tie.Need-loop-less Inv-loop μ-loop
 loop-less c = omega arith
@@ -50,10 +41,10 @@ put-number-spec =
     Inv-loop
     μ-loop
     loop-holds
-    cast-image
-    add-image
+    (λ c. search needs)
+    (λ c. search needs)
     slice-write-image
-    add-i
+    (λ c. search needs)
     loop-less
     loop-again
     same-length

@@ -29,9 +29,6 @@ inside c = within (c .before .loop .i) (length (start (c .before) .args .numbers
 all : (c : tie.After-loop Inv-loop μ-loop) → c .before .loop .i ≡ length (start (c .before) .args .numbers .now)
 all c = omega arith
 
-put-number-requires : tie.Need-put-number-requires Inv-loop μ-loop
-put-number-requires c κs = search needs
-
 loop-holds : tie.Need-loop-holds Inv-loop μ-loop
 loop-holds c = (omega arith, (refl, put-start (le _) _ (length-le _) _ _ _))
 
@@ -44,17 +41,8 @@ mul-put-number c = omega (arith, inside (c .before))
 add-put-number-2 : tie.Need-add-put-number-2 Inv-loop μ-loop
 add-put-number-2 c = omega (arith, inside (c .before))
 
-mul-put-number-2 : tie.Need-mul-put-number-2 Inv-loop μ-loop
-mul-put-number-2 c = search needs
-
-shared-slice-read-put-number : tie.Need-shared-slice-read-put-number Inv-loop μ-loop
-shared-slice-read-put-number c = search needs
-
 put-number-requires-2 : tie.Need-put-number-requires-2 Inv-loop μ-loop
 put-number-requires-2 c κs = omega (arith, inside (c .before .before))
-
-add-i : tie.Need-add-i Inv-loop μ-loop
-add-i c = search needs
 
 loop-less : tie.Need-loop-less Inv-loop μ-loop
 loop-less c = omega arith
@@ -92,15 +80,15 @@ put-numbers-spec =
     (tie.spec
     Inv-loop
     μ-loop
-    put-number-requires
+    (λ c κs. search needs)
     loop-holds
     add-put-number
     mul-put-number
     add-put-number-2
-    mul-put-number-2
-    shared-slice-read-put-number
+    (λ c. search needs)
+    (λ c. search needs)
     put-number-requires-2
-    add-i
+    (λ c. search needs)
     loop-less
     loop-again
     add-result

@@ -40,9 +40,6 @@ many c = let l = all c in length-take-le _ _ (omega (arith, length-drop (c .args
 inside : (c : tie.In-loop Inv-loop μ-loop) → c .before .loop .i * start (c .before) .args .size + start (c .before) .args .size ≤ start (c .before) .args .n * start (c .before) .args .size
 inside c = within (c .before .loop .i) (start (c .before) .args .n) (start (c .before) .args .size) (omega arith)
 
-put-number-requires : tie.Need-put-number-requires Inv-loop μ-loop
-put-number-requires c κs = search needs
-
 loop-holds : tie.Need-loop-holds Inv-loop μ-loop
 loop-holds c = (omega arith, (refl, put-start (predicateBytes _) _ (length-bytes _) _ _ _))
 
@@ -58,17 +55,8 @@ add-put-predicate-2 c = omega (arith, inside (c .before))
 add-put-predicate-3 : tie.Need-add-put-predicate-3 Inv-loop μ-loop
 add-put-predicate-3 c = omega arith
 
-mul-put-predicate-2 : tie.Need-mul-put-predicate-2 Inv-loop μ-loop
-mul-put-predicate-2 c = search needs
-
-array-copy-out-put-predicate : tie.Need-array-copy-out-put-predicate Inv-loop μ-loop
-array-copy-out-put-predicate c = search needs
-
 put-predicate-requires : tie.Need-put-predicate-requires Inv-loop μ-loop
 put-predicate-requires c κs = (omega arith, omega (arith, inside (c .before .before)))
-
-add-i : tie.Need-add-i Inv-loop μ-loop
-add-i c = search needs
 
 loop-less : tie.Need-loop-less Inv-loop μ-loop
 loop-less c = omega arith
@@ -108,16 +96,16 @@ put-predicates-spec =
     (tie.spec
     Inv-loop
     μ-loop
-    put-number-requires
+    (λ c κs. search needs)
     loop-holds
     add-put-predicate
     mul-put-predicate
     add-put-predicate-2
     add-put-predicate-3
-    mul-put-predicate-2
-    array-copy-out-put-predicate
+    (λ c. search needs)
+    (λ c. search needs)
     put-predicate-requires
-    add-i
+    (λ c. search needs)
     loop-less
     loop-again
     add-result

@@ -14,16 +14,10 @@ use Rattle.instructions.proofs.Effects.{x-is}
 use Rattle.instructions.proofs.counter.cntp_counter.Statement.{statement}
 use Rattle.instructions.proofs.counter.cntp_counter.Tie as tie
 
-group-requires : tie.Need-group-requires
-group-requires c κs = search needs
-
 count-expanded-requires : tie.Need-count-expanded-requires
 count-expanded-requires c κs =
     let a = c .before .args in
     omega (arith, c .group .ensures, group-le (a .four) (elements (a .vl) (a .size)) (elements-le (a .vl) (a .size)))
-
-gives-x-requires : tie.Need-gives-x-requires
-gives-x-requires c κs = search needs
 
 returns : tie.Need-returns
 unfolding cntpCounterOf
@@ -36,4 +30,4 @@ returns c =
 pub cntp-counter-spec : {M : Type 1} → statement M
 cntp-counter-spec =
     tie.close
-    (tie.spec group-requires count-expanded-requires gives-x-requires returns)
+    (tie.spec (λ c κs. search needs) count-expanded-requires (λ c κs. search needs) returns)

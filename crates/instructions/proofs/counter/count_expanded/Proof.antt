@@ -6,40 +6,13 @@ use Rattle.instructions.proofs.CounterLaws.{none-is, plain-is, inverted
 use Rattle.instructions.proofs.counter.count_expanded.Statement.{statement}
 use Rattle.instructions.proofs.counter.count_expanded.Tie as tie
 
-array-read-word : tie.Need-array-read-word
-array-read-word c = search needs
-
-lowest-bit-requires : tie.Need-lowest-bit-requires
-lowest-bit-requires c κs = search needs
-
 returns : tie.Need-returns
 returns c =
     let a = c .before .before .before .args in
     none-is (a .p) (a .size) (a .vl) (a .g) _ (c .before .lowest-bit .ensures) (omega arith)
 
-shift-requires : tie.Need-shift-requires
-shift-requires c κs = search needs
-
-greatest-requires : tie.Need-greatest-requires
-greatest-requires c κs = search needs
-
 shl-least : tie.Need-shl-least
 shl-least c = omega (arith, c .before .shift .ensures, shift-lt (c .before .before .before .before .before .args .size))
-
-mark-end-requires : tie.Need-mark-end-requires
-mark-end-requires c κs = search needs
-
-least-requires : tie.Need-least-requires
-least-requires c κs = search needs
-
-count-above-requires : tie.Need-count-above-requires
-count-above-requires c κs = search needs
-
-shl-least-2 : tie.Need-shl-least-2
-shl-least-2 c = search needs
-
-least-requires-2 : tie.Need-least-requires-2
-least-requires-2 c κs = search needs
 
 starts-below-requires : tie.Need-starts-below-requires
 starts-below-requires c κs = search (held-fits, larger-lt, size-lt, needs) depth 9
@@ -70,17 +43,17 @@ pub count-expanded-spec : {M : Type 1} → statement M
 count-expanded-spec =
     tie.close
     (tie.spec
-    array-read-word
-    lowest-bit-requires
+    (λ c. search needs)
+    (λ c κs. search needs)
     returns
-    shift-requires
-    greatest-requires
+    (λ c κs. search needs)
+    (λ c κs. search needs)
     shl-least
-    mark-end-requires
-    least-requires
-    count-above-requires
-    shl-least-2
-    least-requires-2
+    (λ c κs. search needs)
+    (λ c κs. search needs)
+    (λ c κs. search needs)
+    (λ c. search needs)
+    (λ c κs. search needs)
     starts-below-requires
     starts-below-requires-2
     sub-result

@@ -13,12 +13,6 @@ use Rattle.instructions.proofs.counter.counter.Tie as tie
 returns : tie.Need-returns
 returns c = counter-none (c .before .args .up) (c .before .args .g) (c .before .args .n) _ (c .if1 .taken)
 
-sub-marked : tie.Need-sub-marked
-sub-marked c = search needs
-
-marked-requires : tie.Need-marked-requires
-marked-requires c κs = search needs
-
 add-result : tie.Need-add-result
 add-result c =
     let s = c .before .before .before in
@@ -26,9 +20,6 @@ add-result c =
 
 returns-2 : tie.Need-returns-2
 returns-2 c = counter-down _ _ _ _ _ (c .before .before .if1 .left) (not-true _ (c .before .if2 .taken)) (c .marked .ensures)
-
-marked-requires-2 : tie.Need-marked-requires-2
-marked-requires-2 c κs = search needs
 
 add-result-2 : tie.Need-add-result-2
 add-result-2 c =
@@ -38,9 +29,6 @@ add-result-2 c =
 returns-3 : tie.Need-returns-3
 returns-3 c = counter-full _ _ _ _ _ (c .before .before .before .if1 .left) (not-false _ (c .before .before .if2 .left)) (c .before .if3 .taken) (c .marked2 .ensures)
 
-marked-requires-3 : tie.Need-marked-requires-3
-marked-requires-3 c κs = search needs
-
 returns-4 : tie.Need-returns-4
 returns-4 c = counter-part _ _ _ _ _ (c .before .before .before .if1 .left) (not-false _ (c .before .before .if2 .left)) (c .before .if3 .left) (c .marked3 .ensures)
 
@@ -49,12 +37,12 @@ counter-spec =
     tie.close
     (tie.spec
     returns
-    sub-marked
-    marked-requires
+    (λ c. search needs)
+    (λ c κs. search needs)
     add-result
     returns-2
-    marked-requires-2
+    (λ c κs. search needs)
     add-result-2
     returns-3
-    marked-requires-3
+    (λ c κs. search needs)
     returns-4)

@@ -9,9 +9,6 @@ use Rattle.instructions.specs.Counter.{groupOf}
 use Rattle.instructions.proofs.counter.group.Statement.{statement}
 use Rattle.instructions.proofs.counter.group.Tie as tie
 
-elements-requires : tie.Need-elements-requires
-elements-requires c κs = search needs
-
 mul-result : tie.Need-mul-result
 mul-result c = omega (arith, c .before .elements .ensures, elements-le (c .before .before .args .vl) (c .before .before .args .size))
 
@@ -29,4 +26,4 @@ returns-2 c =
     sym (ap (λ (t : Bool). groupOf t (c .before .elements .result)) (c .if1 .left)) ∙ ap (groupOf (a .four)) (c .before .elements .ensures)
 
 pub group-spec : {M : Type 1} → statement M
-group-spec = tie.close (tie.spec elements-requires mul-result returns mul-result-2 returns-2)
+group-spec = tie.close (tie.spec (λ c κs. search needs) mul-result returns mul-result-2 returns-2)

@@ -7,22 +7,13 @@ use Rattle.instructions.proofs.CounterLaws.{length-le, mark-end-is}
 use Rattle.instructions.proofs.counter.mark_end.Statement.{statement}
 use Rattle.instructions.proofs.counter.mark_end.Tie as tie
 
-predicate-length-requires : tie.Need-predicate-length-requires
-predicate-length-requires c κs = search needs
-
-shr-result : tie.Need-shr-result
-shr-result c = search needs
-
 mul-result : tie.Need-mul-result
 mul-result c =
     omega (arith, div-le-self (c .predicate-length .result) (2 ^ c .before .args .mark), c .predicate-length .ensures, length-le (c .before .args .vl))
-
-shl-result : tie.Need-shl-result
-shl-result c = search needs
 
 returns : tie.Need-returns
 returns c = search (mark-end-is, needs) depth 9
 
 pub mark-end-spec : {M : Type 1} → statement M
 mark-end-spec =
-    tie.close (tie.spec predicate-length-requires shr-result mul-result shl-result returns)
+    tie.close (tie.spec (λ c κs. search needs) (λ c. search needs) mul-result (λ c. search needs) returns)

@@ -9,15 +9,6 @@ use Rattle.bits.proofs.Sizes.{shift-lt}
 use Rattle.instructions.proofs.counter.marked.Statement.{statement}
 use Rattle.instructions.proofs.counter.marked.Tie as tie
 
-mul-result : tie.Need-mul-result
-mul-result c = search needs
-
-add-result : tie.Need-add-result
-add-result c = search needs
-
-shift-requires : tie.Need-shift-requires
-shift-requires c κs = search needs
-
 shl-result : tie.Need-shl-result
 shl-result c = omega (arith, shift-lt (c .before .args .size))
 
@@ -28,4 +19,4 @@ returns c =
     ap (λ (x : ℕ). ((n * 2 + 1) * 2 ^ x) % 2 ^ 64) (c .shift .ensures) ∙ shl-exact 12 k 64 (omega arith) (omega (arith, shift-lt (c .before .args .size))) ∙ omega arith
 
 pub marked-spec : {M : Type 1} → statement M
-marked-spec = tie.close (tie.spec mul-result add-result shift-requires shl-result returns)
+marked-spec = tie.close (tie.spec (λ c. search needs) (λ c. search needs) (λ c κs. search needs) shl-result returns)

@@ -9,17 +9,11 @@ use Rattle.predicates.proofs.ElementBits.{count-starts}
 use Rattle.instructions.proofs.counter.starts_below.Statement.{statement}
 use Rattle.instructions.proofs.counter.starts_below.Tie as tie
 
-shl-result : tie.Need-shl-result
-shl-result c = search needs
-
 sub-result : tie.Need-sub-result
 sub-result c = omega (arith, one-shifted (c .args .k) (omega arith), pow-pos (c .args .k))
 
 add-result : tie.Need-add-result
 add-result c = omega (arith, one-shifted (c .args .k) (omega arith), power-le (c .args .k) (omega arith))
-
-shr-result : tie.Need-shr-result
-shr-result c = search needs
 
 returns : tie.Need-returns
 returns c =
@@ -28,4 +22,4 @@ returns c =
     ap (λ (x : ℕ). (b + (x - 1)) / 2 ^ k) (one-shifted k (omega arith)) ∙ count-starts k b
 
 pub starts-below-spec : {M : Type 1} → statement M
-starts-below-spec = tie.close (tie.spec shl-result sub-result add-result shr-result returns)
+starts-below-spec = tie.close (tie.spec (λ c. search needs) sub-result add-result (λ c. search needs) returns)

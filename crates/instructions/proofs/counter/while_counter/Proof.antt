@@ -20,30 +20,12 @@ use Rattle.instructions.proofs.WhileLaws.{held-le}
 use Rattle.instructions.proofs.counter.while_counter.Statement.{statement}
 use Rattle.instructions.proofs.counter.while_counter.Tie as tie
 
-group-requires : tie.Need-group-requires
-group-requires c κs = search needs
-
-held-requires : tie.Need-held-requires
-held-requires c κs = search needs
-
-counts-up-requires : tie.Need-counts-up-requires
-counts-up-requires c κs = search needs
-
 counter-requires : tie.Need-counter-requires
 counter-requires c κs =
     let s = c .before .before .before in (
       omega (arith, held-le (comparison w64 (s .args .unsigned) (s .args .condition) (lowOf w64 (s .args .rn)) (lowOf w64 (s .args .rm))) (c .before .before .group .result), c .before .held .ensures),
       omega (arith, c .before .before .group .ensures, group-le (s .args .four) (elements (s .args .vl) (s .args .size)) (elements-le (s .args .vl) (s .args .size))),
     )
-
-of-word-requires : tie.Need-of-word-requires
-of-word-requires c κs = search needs
-
-counter-flags-requires : tie.Need-counter-flags-requires
-counter-flags-requires c κs = search needs
-
-gives-p-requires : tie.Need-gives-p-requires
-gives-p-requires c κs = search needs
 
 returns : tie.Need-returns
 unfolding whileCounterOf
@@ -72,11 +54,11 @@ pub while-counter-spec : {M : Type 1} → statement M
 while-counter-spec =
     tie.close
     (tie.spec
-    group-requires
-    held-requires
-    counts-up-requires
+    (λ c κs. search needs)
+    (λ c κs. search needs)
+    (λ c κs. search needs)
     counter-requires
-    of-word-requires
-    counter-flags-requires
-    gives-p-requires
+    (λ c κs. search needs)
+    (λ c κs. search needs)
+    (λ c κs. search needs)
     returns)

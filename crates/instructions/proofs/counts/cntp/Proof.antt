@@ -7,15 +7,6 @@ use Rattle.instructions.proofs.SearchLaws.{both-active}
 use Rattle.instructions.proofs.counts.cntp.Statement.{statement}
 use Rattle.instructions.proofs.counts.cntp.Tie as tie
 
-and-requires : tie.Need-and-requires
-and-requires c κs = search needs
-
-count-active-requires : tie.Need-count-active-requires
-count-active-requires c κs = search needs
-
-gives-x-requires : tie.Need-gives-x-requires
-gives-x-requires c κs = search needs
-
 returns : tie.Need-returns
 unfolding cntpOf
 returns c =
@@ -23,4 +14,4 @@ returns c =
     x-is _ _ _ (c .gives-x .ensures) (c .before .count-active .ensures ∙ both-active (s .args .vl) (s .args .size) (s .args .pg) (s .args .pn) _ (c .before .before .and .ensures))
 
 pub cntp-spec : {M : Type 1} → statement M
-cntp-spec = tie.close (tie.spec and-requires count-active-requires gives-x-requires returns)
+cntp-spec = tie.close (tie.spec (λ c κs. search needs) (λ c κs. search needs) (λ c κs. search needs) returns)

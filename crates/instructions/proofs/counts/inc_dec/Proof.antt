@@ -7,24 +7,12 @@ use borrow.Author.Needs.{needs}
 use Rattle.instructions.proofs.counts.inc_dec.Statement.{statement}
 use Rattle.instructions.proofs.counts.inc_dec.Tie as tie
 
-wrapping-sub-u64-requires : tie.Need-wrapping-sub-u64-requires
-wrapping-sub-u64-requires c κs = search needs
-
-gives-x-requires : tie.Need-gives-x-requires
-gives-x-requires c κs = search needs
-
 returns : tie.Need-returns
 unfolding incDecOf
 returns c =
     let s = c .before .before .before in
     x-is _ _ _ (c .gives-x .ensures)
     (dec-is (s .args .decrement) (s .args .rdn) (s .args .n) _ (c .before .before .if1 .taken) (search needs) (s .fits .rdn .fits) (c .before .wrapping-sub-u64 .ok) (c .before .wrapping-sub-u64 .ensures))
-
-wrapping-add-u64-requires : tie.Need-wrapping-add-u64-requires
-wrapping-add-u64-requires c κs = search needs
-
-gives-x-requires-2 : tie.Need-gives-x-requires-2
-gives-x-requires-2 c κs = search needs
 
 returns-2 : tie.Need-returns-2
 unfolding incDecOf
@@ -36,9 +24,9 @@ pub inc-dec-spec : {M : Type 1} → statement M
 inc-dec-spec =
     tie.close
     (tie.spec
-    wrapping-sub-u64-requires
-    gives-x-requires
+    (λ c κs. search needs)
+    (λ c κs. search needs)
     returns
-    wrapping-add-u64-requires
-    gives-x-requires-2
+    (λ c κs. search needs)
+    (λ c κs. search needs)
     returns-2)

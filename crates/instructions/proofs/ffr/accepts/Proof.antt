@@ -28,12 +28,6 @@ any-value i v h = go (accepts i v) refl
 by-form : (i j : Instruction) (v : Values) (t : Bool) → i ≡ j → t ≡ accepts j v → t ≡ accepts i v
 by-form i j v t h e = e ∙ sym (ap (λ (k : Instruction). accepts k v) h)
 
-enum-told : tie.Need-enum-told
-enum-told c = search needs
-
-is-monotonic-requires : tie.Need-is-monotonic-requires
-is-monotonic-requires c κs = search needs
-
 returns : tie.Need-returns
 returns c = search (by-form, needs) depth 9
 
@@ -41,4 +35,4 @@ returns-2 : tie.Need-returns-2
 returns-2 c = any-value (c .before .before .args .i) (c .before .before .args .v) (c .match .keys2)
 
 pub accepts-spec : {M : Type 1} → statement M
-accepts-spec = tie.close (tie.spec enum-told is-monotonic-requires returns returns-2)
+accepts-spec = tie.close (tie.spec (λ c. search needs) (λ c κs. search needs) returns returns-2)

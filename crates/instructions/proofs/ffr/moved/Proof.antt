@@ -7,12 +7,9 @@ use borrow.Author.Needs.{needs}
 use Rattle.instructions.proofs.ffr.moved.Statement.{statement}
 use Rattle.instructions.proofs.ffr.moved.Tie as tie
 
-gives-p-requires : tie.Need-gives-p-requires
-gives-p-requires c κs = search needs
-
 returns : tie.Need-returns
 unfolding nzcv
 returns c = one-is _ _ _ _ noFlags (c .gives-p .ensures) refl refl
 
 pub moved-spec : {M : Type 1} → statement M
-moved-spec = tie.close (tie.spec gives-p-requires returns)
+moved-spec = tie.close (tie.spec (λ c κs. search needs) returns)

@@ -8,15 +8,9 @@ use borrow.Author.Needs.{needs}
 use Rattle.instructions.proofs.ffr.rdffr_pg.Statement.{statement}
 use Rattle.instructions.proofs.ffr.rdffr_pg.Tie as tie
 
-and-requires : tie.Need-and-requires
-and-requires c κs = search needs
-
-gives-p-requires : tie.Need-gives-p-requires
-gives-p-requires c κs = search needs
-
 returns : tie.Need-returns
 unfolding nzcv underMask
 returns c = one-is _ _ _ _ noFlags (c .gives-p .ensures) (c .before .and .ensures) refl
 
 pub rdffr-pg-spec : {M : Type 1} → statement M
-rdffr-pg-spec = tie.close (tie.spec and-requires gives-p-requires returns)
+rdffr-pg-spec = tie.close (tie.spec (λ c κs. search needs) (λ c κs. search needs) returns)

@@ -12,21 +12,6 @@ use borrow.Author.Needs.{needs}
 use Rattle.instructions.proofs.ffr.rdffrs_pg.Statement.{statement}
 use Rattle.instructions.proofs.ffr.rdffrs_pg.Tie as tie
 
-and-requires : tie.Need-and-requires
-and-requires c κs = search needs
-
-live-requires : tie.Need-live-requires
-live-requires c κs = search needs
-
-and-requires-2 : tie.Need-and-requires-2
-and-requires-2 c κs = search needs
-
-test-bits-requires : tie.Need-test-bits-requires
-test-bits-requires c κs = search needs
-
-gives-p-requires : tie.Need-gives-p-requires
-gives-p-requires c κs = search needs
-
 returns : tie.Need-returns
 unfolding rdffrsPgOf underMask
 returns c =
@@ -42,4 +27,4 @@ returns c =
 pub rdffrs-pg-spec : {M : Type 1} → statement M
 rdffrs-pg-spec =
     tie.close
-    (tie.spec and-requires live-requires and-requires-2 test-bits-requires gives-p-requires returns)
+    (tie.spec (λ c κs. search needs) (λ c κs. search needs) (λ c κs. search needs) (λ c κs. search needs) (λ c κs. search needs) returns)

@@ -9,15 +9,9 @@ use borrow.Author.Needs.{needs}
 use Rattle.instructions.proofs.ffr.setffr.Statement.{statement}
 use Rattle.instructions.proofs.ffr.setffr.Tie as tie
 
-live-requires : tie.Need-live-requires
-live-requires c κs = search needs
-
-gives-p-requires : tie.Need-gives-p-requires
-gives-p-requires c κs = search needs
-
 returns : tie.Need-returns
 unfolding nzcv setffrOf
 returns c = one-is _ _ _ _ noFlags (c .gives-p .ensures) (c .before .live .ensures ∙ live-bits (c .before .before .args .vl)) refl
 
 pub setffr-spec : {M : Type 1} → statement M
-setffr-spec = tie.close (tie.spec live-requires gives-p-requires returns)
+setffr-spec = tie.close (tie.spec (λ c κs. search needs) (λ c κs. search needs) returns)

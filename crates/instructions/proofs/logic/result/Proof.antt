@@ -4,84 +4,6 @@ use Rattle.instructions.proofs.LogicLaws.{and-words, bic-words, eor-wor
 use Rattle.instructions.proofs.logic.result.Statement.{statement}
 use Rattle.instructions.proofs.logic.result.Tie as tie
 
-complement-requires : tie.Need-complement-requires
-complement-requires c κs = search needs
-
-enum-told : tie.Need-enum-told
-enum-told c = search needs
-
-and-requires : tie.Need-and-requires
-and-requires c κs = search needs
-
-and-requires-2 : tie.Need-and-requires-2
-and-requires-2 c κs = search needs
-
-enum-told-2 : tie.Need-enum-told-2
-enum-told-2 c = search needs
-
-and-requires-3 : tie.Need-and-requires-3
-and-requires-3 c κs = search needs
-
-and-requires-4 : tie.Need-and-requires-4
-and-requires-4 c κs = search needs
-
-enum-told-3 : tie.Need-enum-told-3
-enum-told-3 c = search needs
-
-xor-requires : tie.Need-xor-requires
-xor-requires c κs = search needs
-
-and-requires-5 : tie.Need-and-requires-5
-and-requires-5 c κs = search needs
-
-enum-told-4 : tie.Need-enum-told-4
-enum-told-4 c = search needs
-
-and-requires-6 : tie.Need-and-requires-6
-and-requires-6 c κs = search needs
-
-and-not-requires : tie.Need-and-not-requires
-and-not-requires c κs = search needs
-
-or-requires : tie.Need-or-requires
-or-requires c κs = search needs
-
-enum-told-5 : tie.Need-enum-told-5
-enum-told-5 c = search needs
-
-or-requires-2 : tie.Need-or-requires-2
-or-requires-2 c κs = search needs
-
-and-requires-7 : tie.Need-and-requires-7
-and-requires-7 c κs = search needs
-
-enum-told-6 : tie.Need-enum-told-6
-enum-told-6 c = search needs
-
-or-requires-3 : tie.Need-or-requires-3
-or-requires-3 c κs = search needs
-
-and-requires-8 : tie.Need-and-requires-8
-and-requires-8 c κs = search needs
-
-enum-told-7 : tie.Need-enum-told-7
-enum-told-7 c = search needs
-
-or-requires-4 : tie.Need-or-requires-4
-or-requires-4 c κs = search needs
-
-and-not-requires-2 : tie.Need-and-not-requires-2
-and-not-requires-2 c κs = search needs
-
-enum-told-8 : tie.Need-enum-told-8
-enum-told-8 c = search needs
-
-and-requires-9 : tie.Need-and-requires-9
-and-requires-9 c κs = search needs
-
-and-not-requires-3 : tie.Need-and-not-requires-3
-and-not-requires-3 c κs = search needs
-
 returns : tie.Need-returns
 returns c = search (and-words, needs) depth 9
 
@@ -110,32 +32,32 @@ pub result-spec : {M : Type 1} → statement M
 result-spec =
     tie.close
     (tie.spec
-    complement-requires
-    enum-told
-    and-requires
-    and-requires-2
-    enum-told-2
-    and-requires-3
-    and-requires-4
-    enum-told-3
-    xor-requires
-    and-requires-5
-    enum-told-4
-    and-requires-6
-    and-not-requires
-    or-requires
-    enum-told-5
-    or-requires-2
-    and-requires-7
-    enum-told-6
-    or-requires-3
-    and-requires-8
-    enum-told-7
-    or-requires-4
-    and-not-requires-2
-    enum-told-8
-    and-requires-9
-    and-not-requires-3
+    (λ c κs. search needs)
+    (λ c. search needs)
+    (λ c κs. search needs)
+    (λ c κs. search needs)
+    (λ c. search needs)
+    (λ c κs. search needs)
+    (λ c κs. search needs)
+    (λ c. search needs)
+    (λ c κs. search needs)
+    (λ c κs. search needs)
+    (λ c. search needs)
+    (λ c κs. search needs)
+    (λ c κs. search needs)
+    (λ c κs. search needs)
+    (λ c. search needs)
+    (λ c κs. search needs)
+    (λ c κs. search needs)
+    (λ c. search needs)
+    (λ c κs. search needs)
+    (λ c κs. search needs)
+    (λ c. search needs)
+    (λ c κs. search needs)
+    (λ c κs. search needs)
+    (λ c. search needs)
+    (λ c κs. search needs)
+    (λ c κs. search needs)
     returns
     returns-2
     returns-3

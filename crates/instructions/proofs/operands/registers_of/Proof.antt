@@ -4,102 +4,6 @@ use borrow.Author.Needs.{needs}
 use Rattle.instructions.proofs.operands.registers_of.Statement.{statement}
 use Rattle.instructions.proofs.operands.registers_of.Tie as tie
 
-enum-known-i : tie.Need-enum-known-i
-enum-known-i c = search needs
-
-target-of-requires : tie.Need-target-of-requires
-target-of-requires c κs = search needs
-
-second-target-of-requires : tie.Need-second-target-of-requires
-second-target-of-requires c κs = search needs
-
-comparing-requires : tie.Need-comparing-requires
-comparing-requires c κs = search needs
-
-enum-known-i-2 : tie.Need-enum-known-i-2
-enum-known-i-2 c = search needs
-
-counting-requires : tie.Need-counting-requires
-counting-requires c κs = search needs
-
-enum-known-i-3 : tie.Need-enum-known-i-3
-enum-known-i-3 c = search needs
-
-counting-requires-2 : tie.Need-counting-requires-2
-counting-requires-2 c κs = search needs
-
-enum-known-i-4 : tie.Need-enum-known-i-4
-enum-known-i-4 c = search needs
-
-counting-requires-3 : tie.Need-counting-requires-3
-counting-requires-3 c κs = search needs
-
-enum-known-i-5 : tie.Need-enum-known-i-5
-enum-known-i-5 c = search needs
-
-counting-requires-4 : tie.Need-counting-requires-4
-counting-requires-4 c κs = search needs
-
-enum-known-i-6 : tie.Need-enum-known-i-6
-enum-known-i-6 c = search needs
-
-masking-requires : tie.Need-masking-requires
-masking-requires c κs = search needs
-
-enum-known-i-7 : tie.Need-enum-known-i-7
-enum-known-i-7 c = search needs
-
-masking-requires-2 : tie.Need-masking-requires-2
-masking-requires-2 c κs = search needs
-
-enum-known-i-8 : tie.Need-enum-known-i-8
-enum-known-i-8 c = search needs
-
-masking-requires-3 : tie.Need-masking-requires-3
-masking-requires-3 c κs = search needs
-
-enum-known-i-9 : tie.Need-enum-known-i-9
-enum-known-i-9 c = search needs
-
-masking-requires-4 : tie.Need-masking-requires-4
-masking-requires-4 c κs = search needs
-
-enum-known-i-10 : tie.Need-enum-known-i-10
-enum-known-i-10 c = search needs
-
-masking-requires-5 : tie.Need-masking-requires-5
-masking-requires-5 c κs = search needs
-
-enum-told : tie.Need-enum-told
-enum-told c = search needs
-
-masking-requires-6 : tie.Need-masking-requires-6
-masking-requires-6 c κs = search needs
-
-enum-known-i-11 : tie.Need-enum-known-i-11
-enum-known-i-11 c = search needs
-
-masking-requires-7 : tie.Need-masking-requires-7
-masking-requires-7 c κs = search needs
-
-enum-known-i-12 : tie.Need-enum-known-i-12
-enum-known-i-12 c = search needs
-
-masking-requires-8 : tie.Need-masking-requires-8
-masking-requires-8 c κs = search needs
-
-enum-known-i-13 : tie.Need-enum-known-i-13
-enum-known-i-13 c = search needs
-
-masking-requires-9 : tie.Need-masking-requires-9
-masking-requires-9 c κs = search needs
-
-enum-known-i-14 : tie.Need-enum-known-i-14
-enum-known-i-14 c = search needs
-
-masking-requires-10 : tie.Need-masking-requires-10
-masking-requires-10 c κs = search needs
-
 returns : tie.Need-returns
 returns c = search (names-targets, needs) depth 9
 
@@ -149,38 +53,38 @@ pub registers-of-spec : {M : Type 1} → statement M
 registers-of-spec =
     tie.close
     (tie.spec
-    enum-known-i
-    target-of-requires
-    second-target-of-requires
-    comparing-requires
-    enum-known-i-2
-    counting-requires
-    enum-known-i-3
-    counting-requires-2
-    enum-known-i-4
-    counting-requires-3
-    enum-known-i-5
-    counting-requires-4
-    enum-known-i-6
-    masking-requires
-    enum-known-i-7
-    masking-requires-2
-    enum-known-i-8
-    masking-requires-3
-    enum-known-i-9
-    masking-requires-4
-    enum-known-i-10
-    masking-requires-5
-    enum-told
-    masking-requires-6
-    enum-known-i-11
-    masking-requires-7
-    enum-known-i-12
-    masking-requires-8
-    enum-known-i-13
-    masking-requires-9
-    enum-known-i-14
-    masking-requires-10
+    (λ c. search needs)
+    (λ c κs. search needs)
+    (λ c κs. search needs)
+    (λ c κs. search needs)
+    (λ c. search needs)
+    (λ c κs. search needs)
+    (λ c. search needs)
+    (λ c κs. search needs)
+    (λ c. search needs)
+    (λ c κs. search needs)
+    (λ c. search needs)
+    (λ c κs. search needs)
+    (λ c. search needs)
+    (λ c κs. search needs)
+    (λ c. search needs)
+    (λ c κs. search needs)
+    (λ c. search needs)
+    (λ c κs. search needs)
+    (λ c. search needs)
+    (λ c κs. search needs)
+    (λ c. search needs)
+    (λ c κs. search needs)
+    (λ c. search needs)
+    (λ c κs. search needs)
+    (λ c. search needs)
+    (λ c κs. search needs)
+    (λ c. search needs)
+    (λ c κs. search needs)
+    (λ c. search needs)
+    (λ c κs. search needs)
+    (λ c. search needs)
+    (λ c κs. search needs)
     returns
     returns-2
     returns-3

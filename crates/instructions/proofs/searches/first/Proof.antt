@@ -8,21 +8,6 @@ use Rattle.instructions.proofs.SearchLaws.{first-set, first-kept}
 use Rattle.instructions.proofs.searches.first.Statement.{statement}
 use Rattle.instructions.proofs.searches.first.Tie as tie
 
-live-requires : tie.Need-live-requires
-live-requires c κs = search needs
-
-and-requires : tie.Need-and-requires
-and-requires c κs = search needs
-
-lowest-requires : tie.Need-lowest-requires
-lowest-requires c κs = search needs
-
-only-requires : tie.Need-only-requires
-only-requires c κs = search needs
-
-or-requires : tie.Need-or-requires
-or-requires c κs = search needs
-
 returns : tie.Need-returns
 returns c =
     let s = c .before .before .before .before .before .before in
@@ -42,10 +27,10 @@ pub first-spec : {M : Type 1} → statement M
 first-spec =
     tie.close
     (tie.spec
-    live-requires
-    and-requires
-    lowest-requires
-    only-requires
-    or-requires
+    (λ c κs. search needs)
+    (λ c κs. search needs)
+    (λ c κs. search needs)
+    (λ c κs. search needs)
+    (λ c κs. search needs)
     returns
     returns-2)

@@ -7,15 +7,9 @@ use Rattle.instructions.specs.Effect.{noFlags}
 use Rattle.instructions.proofs.searches.pfalse.Statement.{statement}
 use Rattle.instructions.proofs.searches.pfalse.Tie as tie
 
-none-requires : tie.Need-none-requires
-none-requires c κs = search needs
-
-gives-p-requires : tie.Need-gives-p-requires
-gives-p-requires c κs = search needs
-
 returns : tie.Need-returns
 unfolding nzcv
 returns c = one-is _ _ _ _ noFlags (c .gives-p .ensures) (c .before .none .ensures) refl
 
 pub pfalse-spec : {M : Type 1} → statement M
-pfalse-spec = tie.close (tie.spec none-requires gives-p-requires returns)
+pfalse-spec = tie.close (tie.spec (λ c κs. search needs) (λ c κs. search needs) returns)

@@ -10,15 +10,6 @@ use Rattle.instructions.proofs.Effects.{one-is}
 use Rattle.instructions.proofs.searches.pfirst.Statement.{statement}
 use Rattle.instructions.proofs.searches.pfirst.Tie as tie
 
-first-requires : tie.Need-first-requires
-first-requires c κs = search needs
-
-pred-test-requires : tie.Need-pred-test-requires
-pred-test-requires c κs = search needs
-
-gives-p-requires : tie.Need-gives-p-requires
-gives-p-requires c κs = search needs
-
 returns : tie.Need-returns
 unfolding pfirstOf
 returns c =
@@ -27,4 +18,4 @@ returns c =
     (c .before .pred-test .ensures ∙ ap (λ (q : Predicate). nzcv (predTest (active 0 (s .args .pg)) (active 0 q) (elements (s .args .vl) Sz.B))) (c .before .before .first .ensures))
 
 pub pfirst-spec : {M : Type 1} → statement M
-pfirst-spec = tie.close (tie.spec first-requires pred-test-requires gives-p-requires returns)
+pfirst-spec = tie.close (tie.spec (λ c κs. search needs) (λ c κs. search needs) (λ c κs. search needs) returns)

@@ -17,30 +17,6 @@ use Rattle.instructions.proofs.SearchLaws.{next-is, next-none, next-non
 use Rattle.instructions.proofs.searches.pnext.Statement.{statement}
 use Rattle.instructions.proofs.searches.pnext.Tie as tie
 
-elements-requires : tie.Need-elements-requires
-elements-requires c κs = search needs
-
-live-requires : tie.Need-live-requires
-live-requires c κs = search needs
-
-and-requires : tie.Need-and-requires
-and-requires c κs = search needs
-
-end-element-requires : tie.Need-end-element-requires
-end-element-requires c κs = search needs
-
-next-active-requires : tie.Need-next-active-requires
-next-active-requires c κs = search needs
-
-none-requires : tie.Need-none-requires
-none-requires c κs = search needs
-
-nzcv-requires : tie.Need-nzcv-requires
-nzcv-requires c κs = search needs
-
-gives-p-requires : tie.Need-gives-p-requires
-gives-p-requires c κs = search needs
-
 -- what the search has found
 found : (c : tie.After-next-active) → let a = c .before .before .before .before .before .args in c .next-active .result ≡ nextElement (a .size) (a .pv) (a .pdn) (a .vl)
 found c =
@@ -59,23 +35,8 @@ returns c =
     (c .before .before .none .ensures ∙ next-none (a .size) (a .pv) (a .pdn) (a .vl) _ _ (found s) n (c .before .before .before .if1 .taken))
     (c .before .nzcv .ensures ∙ ap nzcv (next-none-flags (a .size) (a .pv) (a .pdn) (a .vl) _ _ (found s) n (c .before .before .before .if1 .taken)))
 
-and-requires-2 : tie.Need-and-requires-2
-and-requires-2 c κs = search needs
-
-shift-requires : tie.Need-shift-requires
-shift-requires c κs = search needs
-
 shl-test-only : tie.Need-shl-test-only
 shl-test-only c = omega (arith, c .shift .ensures, shift-lt (c .before .before .before .before .before .before .before .before .args .size))
-
-test-only-requires : tie.Need-test-only-requires
-test-only-requires c κs = search needs
-
-only-element-requires : tie.Need-only-element-requires
-only-element-requires c κs = search needs
-
-gives-p-requires-2 : tie.Need-gives-p-requires-2
-gives-p-requires-2 c κs = search needs
 
 returns-2 : tie.Need-returns-2
 unfolding pnextOf
@@ -97,19 +58,19 @@ pub pnext-spec : {M : Type 1} → statement M
 pnext-spec =
     tie.close
     (tie.spec
-    elements-requires
-    live-requires
-    and-requires
-    end-element-requires
-    next-active-requires
-    none-requires
-    nzcv-requires
-    gives-p-requires
+    (λ c κs. search needs)
+    (λ c κs. search needs)
+    (λ c κs. search needs)
+    (λ c κs. search needs)
+    (λ c κs. search needs)
+    (λ c κs. search needs)
+    (λ c κs. search needs)
+    (λ c κs. search needs)
     returns
-    and-requires-2
-    shift-requires
+    (λ c κs. search needs)
+    (λ c κs. search needs)
     shl-test-only
-    test-only-requires
-    only-element-requires
-    gives-p-requires-2
+    (λ c κs. search needs)
+    (λ c κs. search needs)
+    (λ c κs. search needs)
     returns-2)

@@ -5,18 +5,9 @@ use Rattle.instructions.proofs.Effects.{one-is}
 use Rattle.instructions.proofs.searches.ptest.Statement.{statement}
 use Rattle.instructions.proofs.searches.ptest.Tie as tie
 
-none-requires : tie.Need-none-requires
-none-requires c κs = search needs
-
-pred-test-requires : tie.Need-pred-test-requires
-pred-test-requires c κs = search needs
-
-gives-p-requires : tie.Need-gives-p-requires
-gives-p-requires c κs = search needs
-
 returns : tie.Need-returns
 unfolding ptestOf
 returns c = one-is _ _ _ _ _ (c .gives-p .ensures) (c .before .before .none .ensures) (c .before .pred-test .ensures)
 
 pub ptest-spec : {M : Type 1} → statement M
-ptest-spec = tie.close (tie.spec none-requires pred-test-requires gives-p-requires returns)
+ptest-spec = tie.close (tie.spec (λ c κs. search needs) (λ c κs. search needs) (λ c κs. search needs) returns)

@@ -7,14 +7,8 @@ use Rattle.bits.specs.Choice.{pick}
 use Rattle.instructions.proofs.whiles.start_of.Statement.{statement}
 use Rattle.instructions.proofs.whiles.start_of.Tie as tie
 
-returns : tie.Need-returns
-returns c = search needs
-
-sub-result : tie.Need-sub-result
-sub-result c = search needs
-
 returns-2 : tie.Need-returns-2
 returns-2 c = sym (ap (λ (t : Bool). pick t 0 (c .before .args .n - c .before .args .c)) (c .if1 .left))
 
 pub start-of-spec : {M : Type 1} → statement M
-start-of-spec = tie.close (tie.spec returns sub-result returns-2)
+start-of-spec = tie.close (tie.spec (λ c. search needs) (λ c. search needs) returns-2)

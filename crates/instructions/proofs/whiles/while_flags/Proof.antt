@@ -8,12 +8,6 @@ use Rattle.instructions.proofs.WhileLaws.{countFlags, span-flags}
 use Rattle.instructions.proofs.whiles.while_flags.Statement.{statement}
 use Rattle.instructions.proofs.whiles.while_flags.Tie as tie
 
-least-requires : tie.Need-least-requires
-least-requires c κs = search needs
-
-nzcv-requires : tie.Need-nzcv-requires
-nzcv-requires c κs = search needs
-
 -- the flags of the count, for a way of counting
 told : (c : tie.After-least) (up : Bool) → c .before .args .up ≡ up → nzcv (countFlags up (c .least .result) (c .before .args .n)) ≡ nzcv (spanFlags (c .before .args .up) (c .before .args .c) (c .before .args .n))
 told c up is =
@@ -23,11 +17,8 @@ told c up is =
 returns : tie.Need-returns
 returns c = c .nzcv .ensures ∙ told (c .before .before) true (c .before .if1 .taken)
 
-nzcv-requires-2 : tie.Need-nzcv-requires-2
-nzcv-requires-2 c κs = search needs
-
 returns-2 : tie.Need-returns-2
 returns-2 c = c .nzcv2 .ensures ∙ told (c .before .before) false (c .before .if1 .left)
 
 pub while-flags-spec : {M : Type 1} → statement M
-while-flags-spec = tie.close (tie.spec least-requires nzcv-requires returns nzcv-requires-2 returns-2)
+while-flags-spec = tie.close (tie.spec (λ c κs. search needs) (λ c κs. search needs) returns (λ c κs. search needs) returns-2)

@@ -12,32 +12,11 @@ use Rattle.instructions.proofs.WhileLaws.{held-le, spanned}
 use Rattle.instructions.proofs.whiles.while_one.Statement.{statement}
 use Rattle.instructions.proofs.whiles.while_one.Tie as tie
 
-elements-requires : tie.Need-elements-requires
-elements-requires c κs = search needs
-
-held-requires : tie.Need-held-requires
-held-requires c κs = search needs
-
-counts-up-requires : tie.Need-counts-up-requires
-counts-up-requires c κs = search needs
-
 start-of-requires : tie.Need-start-of-requires
 start-of-requires c κs =
     let s = c .before .before .before in
     let w = widthOf (s .args .wide) in
     omega (arith, held-le (comparison w (s .args .unsigned) (s .args .condition) (lowOf w (s .args .rn)) (lowOf w (s .args .rm))) (c .before .before .elements .result), c .before .held .ensures)
-
-end-of-requires : tie.Need-end-of-requires
-end-of-requires c κs = search needs
-
-span-requires : tie.Need-span-requires
-span-requires c κs = search needs
-
-while-flags-requires : tie.Need-while-flags-requires
-while-flags-requires c κs = search needs
-
-gives-p-requires : tie.Need-gives-p-requires
-gives-p-requires c κs = search needs
 
 returns : tie.Need-returns
 unfolding whileOneOf
@@ -55,12 +34,12 @@ pub while-one-spec : {M : Type 1} → statement M
 while-one-spec =
     tie.close
     (tie.spec
-    elements-requires
-    held-requires
-    counts-up-requires
+    (λ c κs. search needs)
+    (λ c κs. search needs)
+    (λ c κs. search needs)
     start-of-requires
-    end-of-requires
-    span-requires
-    while-flags-requires
-    gives-p-requires
+    (λ c κs. search needs)
+    (λ c κs. search needs)
+    (λ c κs. search needs)
+    (λ c κs. search needs)
     returns)

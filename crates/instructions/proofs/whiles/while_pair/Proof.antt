@@ -16,17 +16,8 @@ use Rattle.instructions.proofs.WhileLaws.{held-le, halved}
 use Rattle.instructions.proofs.whiles.while_pair.Statement.{statement}
 use Rattle.instructions.proofs.whiles.while_pair.Tie as tie
 
-elements-requires : tie.Need-elements-requires
-elements-requires c κs = search needs
-
 mul-held : tie.Need-mul-held
 mul-held c = omega (arith, elements-le (c .before .args .vl) (c .before .args .size))
-
-held-requires : tie.Need-held-requires
-held-requires c κs = search needs
-
-counts-up-requires : tie.Need-counts-up-requires
-counts-up-requires c κs = search needs
 
 mul-start-of : tie.Need-mul-start-of
 mul-start-of c = omega (arith, elements-le (c .before .before .before .args .vl) (c .before .before .before .args .size))
@@ -39,31 +30,10 @@ start-of-requires c κs =
 mul-end-of : tie.Need-mul-end-of
 mul-end-of c = omega (arith, elements-le (c .before .before .before .before .args .vl) (c .before .before .before .before .args .size))
 
-end-of-requires : tie.Need-end-of-requires
-end-of-requires c κs = search needs
-
-least-requires : tie.Need-least-requires
-least-requires c κs = search needs
-
-span-requires : tie.Need-span-requires
-span-requires c κs = search needs
-
-past-requires : tie.Need-past-requires
-past-requires c κs = search needs
-
-past-requires-2 : tie.Need-past-requires-2
-past-requires-2 c κs = search needs
-
-span-requires-2 : tie.Need-span-requires-2
-span-requires-2 c κs = search needs
-
 mul-while-flags : tie.Need-mul-while-flags
 mul-while-flags c =
     let s = c .before .before .before .before .before .before .before .before .before .before in
     omega (arith, c .before .before .before .before .before .before .before .before .before .elements .ensures, elements-le (s .args .vl) (s .args .size))
-
-while-flags-requires : tie.Need-while-flags-requires
-while-flags-requires c κs = search needs
 
 returns : tie.Need-returns
 unfolding whilePairOf
@@ -83,19 +53,19 @@ pub while-pair-spec : {M : Type 1} → statement M
 while-pair-spec =
     tie.close
     (tie.spec
-    elements-requires
+    (λ c κs. search needs)
     mul-held
-    held-requires
-    counts-up-requires
+    (λ c κs. search needs)
+    (λ c κs. search needs)
     mul-start-of
     start-of-requires
     mul-end-of
-    end-of-requires
-    least-requires
-    span-requires
-    past-requires
-    past-requires-2
-    span-requires-2
+    (λ c κs. search needs)
+    (λ c κs. search needs)
+    (λ c κs. search needs)
+    (λ c κs. search needs)
+    (λ c κs. search needs)
+    (λ c κs. search needs)
     mul-while-flags
-    while-flags-requires
+    (λ c κs. search needs)
     returns)

@@ -10,15 +10,6 @@ use Rattle.predicates.proofs.Words.{words-of, Words, word}
 use Rattle.predicates.proofs.Predicate.after_highest.Statement.{statement}
 use Rattle.predicates.proofs.Predicate.after_highest.Tie as tie
 
-array-read-if1 : tie.Need-array-read-if1
-array-read-if1 c = search needs
-
-array-read-bit-length : tie.Need-array-read-bit-length
-array-read-bit-length c = search needs
-
-bit-length-requires : tie.Need-bit-length-requires
-bit-length-requires c κs = search needs
-
 add-result : tie.Need-add-result
 add-result c = omega (arith, last-le (testBit (word (c .before .before .before .args .self) 3)) 64)
 
@@ -27,15 +18,6 @@ returns c =
     let p = c .before .before .before .args .self in
     let ok : Words p = search (needs, words-of) in
     highest-in p 3 _ (omega arith) (above-three p ok) (inl (last-in _ (ok .fit 3) (c .before .if1 .taken))) (omega arith)
-
-array-read-if2 : tie.Need-array-read-if2
-array-read-if2 c = search needs
-
-array-read-bit-length-2 : tie.Need-array-read-bit-length-2
-array-read-bit-length-2 c = search needs
-
-bit-length-requires-2 : tie.Need-bit-length-requires-2
-bit-length-requires-2 c κs = search needs
 
 add-result-2 : tie.Need-add-result-2
 add-result-2 c = omega (arith, last-le (testBit (word (c .before .before .before .before .args .self) 2)) 64)
@@ -46,15 +28,6 @@ returns-2 c =
     let ok : Words p = search (needs, words-of) in
     highest-in p 2 _ (omega arith) (above-pred p 2 (above-three p ok) (c .before .before .if1 .left)) (inl (last-in _ (ok .fit 2) (c .before .if2 .taken))) (omega arith)
 
-array-read-if3 : tie.Need-array-read-if3
-array-read-if3 c = search needs
-
-array-read-bit-length-3 : tie.Need-array-read-bit-length-3
-array-read-bit-length-3 c = search needs
-
-bit-length-requires-3 : tie.Need-bit-length-requires-3
-bit-length-requires-3 c κs = search needs
-
 add-result-3 : tie.Need-add-result-3
 add-result-3 c = omega (arith, last-le (testBit (word (c .before .before .before .before .before .args .self) 1)) 64)
 
@@ -64,12 +37,6 @@ returns-3 c =
     let ok : Words p = search (needs, words-of) in
     highest-in p 1 _ (omega arith) (above-pred p 1 (above-pred p 2 (above-three p ok) (c .before .before .before .if1 .left)) (c .before .before .if2 .left))
     (inl (last-in _ (ok .fit 1) (c .before .if3 .taken))) (omega arith)
-
-array-read-bit-length-4 : tie.Need-array-read-bit-length-4
-array-read-bit-length-4 c = search needs
-
-bit-length-requires-4 : tie.Need-bit-length-requires-4
-bit-length-requires-4 c κs = search needs
 
 returns-4 : tie.Need-returns-4
 returns-4 c =
@@ -83,21 +50,21 @@ pub after-highest-spec : {M : Type 1} → statement M
 after-highest-spec =
     tie.close
     (tie.spec
-    array-read-if1
-    array-read-bit-length
-    bit-length-requires
+    (λ c. search needs)
+    (λ c. search needs)
+    (λ c κs. search needs)
     add-result
     returns
-    array-read-if2
-    array-read-bit-length-2
-    bit-length-requires-2
+    (λ c. search needs)
+    (λ c. search needs)
+    (λ c κs. search needs)
     add-result-2
     returns-2
-    array-read-if3
-    array-read-bit-length-3
-    bit-length-requires-3
+    (λ c. search needs)
+    (λ c. search needs)
+    (λ c κs. search needs)
     add-result-3
     returns-3
-    array-read-bit-length-4
-    bit-length-requires-4
+    (λ c. search needs)
+    (λ c κs. search needs)
     returns-4)

@@ -11,15 +11,9 @@ use Rattle.predicates.proofs.Predicate.bit.Tie as tie
 returns : tie.Need-returns
 returns c = sym (bit-past (c .before .args .self) (search (needs, words-of)) (c .before .args .b) (c .if1 .taken))
 
-word-requires : tie.Need-word-requires
-word-requires c κs = search needs
-
-shr-result : tie.Need-shr-result
-shr-result c = search needs
-
 returns-2 : tie.Need-returns-2
 unfolding bitAt testBit
 returns-2 c = ap (λ (w : ℕ). testBit w (c .before .before .args .b % 64)) (c .word .ensures)
 
 pub bit-spec : {M : Type 1} → statement M
-bit-spec = tie.close (tie.spec returns word-requires shr-result returns-2)
+bit-spec = tie.close (tie.spec returns (λ c κs. search needs) (λ c. search needs) returns-2)

@@ -8,18 +8,6 @@ use Rattle.predicates.proofs.Words.{words-of, pack-op}
 use Rattle.predicates.proofs.Predicate.complement.Statement.{statement}
 use Rattle.predicates.proofs.Predicate.complement.Tie as tie
 
-array-read-t5 : tie.Need-array-read-t5
-array-read-t5 c = search needs
-
-array-read-t9 : tie.Need-array-read-t9
-array-read-t9 c = search needs
-
-array-read-t13 : tie.Need-array-read-t13
-array-read-t13 c = search needs
-
-array-read-t17 : tie.Need-array-read-t17
-array-read-t17 c = search needs
-
 returns : tie.Need-returns
 returns c =
     let p = c .before .args .self in
@@ -27,4 +15,4 @@ returns c =
 
 pub complement-spec : {M : Type 1} → statement M
 complement-spec =
-    tie.close (tie.spec array-read-t5 array-read-t9 array-read-t13 array-read-t17 returns)
+    tie.close (tie.spec (λ c. search needs) (λ c. search needs) (λ c. search needs) (λ c. search needs) returns)

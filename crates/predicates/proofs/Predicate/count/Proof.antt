@@ -14,53 +14,14 @@ use Rattle.predicates.proofs.Predicate.count.Tie as tie
 few : (c : tie.After-ones2) (q : ℕ) → count (testBit (word (c .before .before .before .args .self) q)) 64 ≤ 64
 few c q = count-le (testBit (word (c .before .before .before .args .self) q)) 64
 
-array-read-if1 : tie.Need-array-read-if1
-array-read-if1 c = search needs
-
-array-read-if1-2 : tie.Need-array-read-if1-2
-array-read-if1-2 c = search needs
-
-array-read-if1-3 : tie.Need-array-read-if1-3
-array-read-if1-3 c = search needs
-
-array-read-ones : tie.Need-array-read-ones
-array-read-ones c = search needs
-
-ones-requires : tie.Need-ones-requires
-ones-requires c κs = search needs
-
 returns : tie.Need-returns
 returns c = count-first (c .before .before .before .args .self) _ (c .ones .ensures) (c .before .if1 .taken)
-
-array-read-ones-2 : tie.Need-array-read-ones-2
-array-read-ones-2 c = search needs
-
-ones-requires-2 : tie.Need-ones-requires-2
-ones-requires-2 c κs = search needs
-
-array-read-ones-3 : tie.Need-array-read-ones-3
-array-read-ones-3 c = search needs
-
-ones-requires-3 : tie.Need-ones-requires-3
-ones-requires-3 c κs = search needs
 
 add-result : tie.Need-add-result
 add-result c = omega (arith, few (c .before) 0, few (c .before) 1)
 
-array-read-ones-4 : tie.Need-array-read-ones-4
-array-read-ones-4 c = search needs
-
-ones-requires-4 : tie.Need-ones-requires-4
-ones-requires-4 c κs = search needs
-
 add-result-2 : tie.Need-add-result-2
 add-result-2 c = omega (arith, few (c .before .before) 0, few (c .before .before) 1, few (c .before .before) 2)
-
-array-read-ones-5 : tie.Need-array-read-ones-5
-array-read-ones-5 c = search needs
-
-ones-requires-5 : tie.Need-ones-requires-5
-ones-requires-5 c κs = search needs
 
 add-result-3 : tie.Need-add-result-3
 add-result-3 c = let o = c .before .before .before in omega (arith, few o 0, few o 1, few o 2, few o 3)
@@ -74,21 +35,21 @@ pub count-spec : {M : Type 1} → statement M
 count-spec =
     tie.close
     (tie.spec
-    array-read-if1
-    array-read-if1-2
-    array-read-if1-3
-    array-read-ones
-    ones-requires
+    (λ c. search needs)
+    (λ c. search needs)
+    (λ c. search needs)
+    (λ c. search needs)
+    (λ c κs. search needs)
     returns
-    array-read-ones-2
-    ones-requires-2
-    array-read-ones-3
-    ones-requires-3
+    (λ c. search needs)
+    (λ c κs. search needs)
+    (λ c. search needs)
+    (λ c κs. search needs)
     add-result
-    array-read-ones-4
-    ones-requires-4
+    (λ c. search needs)
+    (λ c κs. search needs)
     add-result-2
-    array-read-ones-5
-    ones-requires-5
+    (λ c. search needs)
+    (λ c κs. search needs)
     add-result-3
     returns-2)

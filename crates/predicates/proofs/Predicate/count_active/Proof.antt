@@ -8,15 +8,6 @@ use Rattle.predicates.proofs.Live.{count-live}
 use Rattle.predicates.proofs.Predicate.count_active.Statement.{statement}
 use Rattle.predicates.proofs.Predicate.count_active.Tie as tie
 
-live-requires : tie.Need-live-requires
-live-requires c κs = search needs
-
-and-requires : tie.Need-and-requires
-and-requires c κs = search needs
-
-count-requires : tie.Need-count-requires
-count-requires c κs = search needs
-
 returns : tie.Need-returns
 returns c =
     let p = c .before .before .before .args .self in
@@ -25,4 +16,4 @@ returns c =
     (c .before .and .ensures ∙ ap (λ (q : Predicate). pack (λ b. bitAt p b && bitAt q b)) (c .before .before .live .ensures))
 
 pub count-active-spec : {M : Type 1} → statement M
-count-active-spec = tie.close (tie.spec live-requires and-requires count-requires returns)
+count-active-spec = tie.close (tie.spec (λ c κs. search needs) (λ c κs. search needs) (λ c κs. search needs) returns)

@@ -18,12 +18,6 @@ width : (c : tie.After-shift) → (1 * 2 ^ c .shift .result) % 2 ^ 64 ≡ 2 ^ sh
 width c =
     ap (λ (k : ℕ). (1 * 2 ^ k) % 2 ^ 64) (c .shift .ensures) ∙ one-shifted (shift (c .before .before .args .size)) (shift-lt (c .before .before .args .size))
 
-after-highest-requires : tie.Need-after-highest-requires
-after-highest-requires c κs = search needs
-
-shift-requires : tie.Need-shift-requires
-shift-requires c κs = search needs
-
 shl-result : tie.Need-shl-result
 shl-result c = omega (arith, shift-lt (c .before .before .args .size))
 
@@ -47,4 +41,4 @@ returns c =
 
 pub end-element-spec : {M : Type 1} → statement M
 end-element-spec =
-    tie.close (tie.spec after-highest-requires shift-requires shl-result sub-result add-result shr-result returns)
+    tie.close (tie.spec (λ c κs. search needs) (λ c κs. search needs) shl-result sub-result add-result shr-result returns)

@@ -29,33 +29,12 @@ unfolding below
 past-is c at h l e =
     sym (and-zero-r (c .element-mask .result)) ∙ word-is c at 0 h l (sym (number-none (below (c .before .end-of .result)) at 64 (λ i m. le-ltb (at + i) (c .before .end-of .result) (omega arith))))
 
-end-of-requires : tie.Need-end-of-requires
-end-of-requires c κs = search needs
-
-element-mask-requires : tie.Need-element-mask-requires
-element-mask-requires c κs = search needs
-
-low-mask-requires : tie.Need-low-mask-requires
-low-mask-requires c κs = search needs
-
 returns : tie.Need-returns
 returns c =
     let m = c .before .before in
     let a = m .before .before .args in
     four-words (spread (shift (a .size)) (between 0 (a .n))) _ _ _ _ (word-is m 0 _ (omega arith) (omega arith) (c .low-mask .ensures))
     (past-is m 64 (omega arith) (omega arith) (omega arith)) (past-is m 128 (omega arith) (omega arith) (omega arith)) (past-is m 192 (omega arith) (omega arith) (omega arith))
-
-low-mask-requires-2 : tie.Need-low-mask-requires-2
-low-mask-requires-2 c κs = search needs
-
-low-mask-requires-3 : tie.Need-low-mask-requires-3
-low-mask-requires-3 c κs = search needs
-
-low-mask-requires-4 : tie.Need-low-mask-requires-4
-low-mask-requires-4 c κs = search needs
-
-low-mask-requires-5 : tie.Need-low-mask-requires-5
-low-mask-requires-5 c κs = search needs
 
 returns-2 : tie.Need-returns-2
 returns-2 c =
@@ -71,12 +50,12 @@ pub first-spec : {M : Type 1} → statement M
 first-spec =
     tie.close
     (tie.spec
-    end-of-requires
-    element-mask-requires
-    low-mask-requires
+    (λ c κs. search needs)
+    (λ c κs. search needs)
+    (λ c κs. search needs)
     returns
-    low-mask-requires-2
-    low-mask-requires-3
-    low-mask-requires-4
-    low-mask-requires-5
+    (λ c κs. search needs)
+    (λ c κs. search needs)
+    (λ c κs. search needs)
+    (λ c κs. search needs)
     returns-2)

@@ -15,14 +15,8 @@ use Rattle.predicates.proofs.Predicate.is_active.Tie as tie
 returns : tie.Need-returns
 returns c = sym (active-past _ (c .before .args .self) (search (needs, words-of)) _ (past-bits _ _ (c .if1 .taken)))
 
-shift-requires : tie.Need-shift-requires
-shift-requires c κs = search needs
-
 shl-bit : tie.Need-shl-bit
 shl-bit c = omega (arith, shift-lt (c .before .before .args .size))
-
-bit-requires : tie.Need-bit-requires
-bit-requires c κs = search needs
 
 returns-2 : tie.Need-returns-2
 unfolding active
@@ -34,4 +28,4 @@ returns-2 c =
     (ap (λ (x : ℕ). (e * 2 ^ x) % 2 ^ 64) (c .before .shift .ensures) ∙ shifted e k (omega arith) (shift-lt (c .before .before .before .args .size)))
 
 pub is-active-spec : {M : Type 1} → statement M
-is-active-spec = tie.close (tie.spec returns shift-requires shl-bit bit-requires returns-2)
+is-active-spec = tie.close (tie.spec returns (λ c κs. search needs) shl-bit (λ c κs. search needs) returns-2)

@@ -7,15 +7,9 @@ use Rattle.predicates.proofs.Monotonic.{run-count}
 use Rattle.predicates.proofs.Predicate.is_monotonic.Statement.{statement}
 use Rattle.predicates.proofs.Predicate.is_monotonic.Tie as tie
 
-count-requires : tie.Need-count-requires
-count-requires c κs = search needs
-
-after-highest-requires : tie.Need-after-highest-requires
-after-highest-requires c κs = search needs
-
 returns : tie.Need-returns
 unfolding monotonic
 returns c = ap₂ eqb (c .before .count .ensures) (c .after-highest .ensures) ∙ sym (run-count (bitAt (c .before .before .args .self)) 256)
 
 pub is-monotonic-spec : {M : Type 1} → statement M
-is-monotonic-spec = tie.close (tie.spec count-requires after-highest-requires returns)
+is-monotonic-spec = tie.close (tie.spec (λ c κs. search needs) (λ c κs. search needs) returns)

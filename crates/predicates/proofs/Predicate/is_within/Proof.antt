@@ -9,15 +9,6 @@ use Rattle.predicates.proofs.ElementBits.{bits-from}
 use Rattle.predicates.proofs.Predicate.is_within.Statement.{statement}
 use Rattle.predicates.proofs.Predicate.is_within.Tie as tie
 
-first-requires : tie.Need-first-requires
-first-requires c κs = search needs
-
-and-not-requires : tie.Need-and-not-requires
-and-not-requires c κs = search needs
-
-is-empty-requires : tie.Need-is-empty-requires
-is-empty-requires c κs = search needs
-
 returns : tie.Need-returns
 returns c =
     c .is-empty .ensures
@@ -26,4 +17,4 @@ returns c =
     ∙ ap not (bits-from (c .before .before .before .args .self) (c .before .before .before .args .pl))
 
 pub is-within-spec : {M : Type 1} → statement M
-is-within-spec = tie.close (tie.spec first-requires and-not-requires is-empty-requires returns)
+is-within-spec = tie.close (tie.spec (λ c κs. search needs) (λ c κs. search needs) (λ c κs. search needs) returns)

@@ -6,14 +6,8 @@ use Rattle.predicates.specs.Predicate.{spanOf}
 use Rattle.predicates.proofs.Predicate.live.Statement.{statement}
 use Rattle.predicates.proofs.Predicate.live.Tie as tie
 
-elements-requires : tie.Need-elements-requires
-elements-requires c κs = search needs
-
-first-requires : tie.Need-first-requires
-first-requires c κs = search needs
-
 returns : tie.Need-returns
 returns c = c .first .ensures ∙ ap (spanOf (shift (c .before .before .args .size)) 0) (c .before .elements .ensures)
 
 pub live-spec : {M : Type 1} → statement M
-live-spec = tie.close (tie.spec elements-requires first-requires returns)
+live-spec = tie.close (tie.spec (λ c κs. search needs) (λ c κs. search needs) returns)

@@ -10,29 +10,11 @@ use Rattle.predicates.proofs.Words.{words-of, Words, word}
 use Rattle.predicates.proofs.Predicate.lowest.Statement.{statement}
 use Rattle.predicates.proofs.Predicate.lowest.Tie as tie
 
-array-read-if1 : tie.Need-array-read-if1
-array-read-if1 c = search needs
-
-array-read-lowest-bit : tie.Need-array-read-lowest-bit
-array-read-lowest-bit c = search needs
-
-lowest-bit-requires : tie.Need-lowest-bit-requires
-lowest-bit-requires c κs = search needs
-
 returns : tie.Need-returns
 returns c =
     let p = c .before .before .before .args .self in
     let ok : Words p = search (needs, words-of) in
     lowest-in p 0 _ (omega arith) (below-zero p) (inl (first-in _ (ok .fit 0) (c .before .if1 .taken))) (omega arith)
-
-array-read-if2 : tie.Need-array-read-if2
-array-read-if2 c = search needs
-
-array-read-lowest-bit-2 : tie.Need-array-read-lowest-bit-2
-array-read-lowest-bit-2 c = search needs
-
-lowest-bit-requires-2 : tie.Need-lowest-bit-requires-2
-lowest-bit-requires-2 c κs = search needs
 
 add-result : tie.Need-add-result
 add-result c = omega (arith, first-le (testBit (word (c .before .before .before .before .args .self) 1)) 64)
@@ -43,15 +25,6 @@ returns-2 c =
     let ok : Words p = search (needs, words-of) in
     lowest-in p 1 _ (omega arith) (below-suc p 0 (below-zero p) (c .before .before .if1 .left)) (inl (first-in _ (ok .fit 1) (c .before .if2 .taken))) (omega arith)
 
-array-read-if3 : tie.Need-array-read-if3
-array-read-if3 c = search needs
-
-array-read-lowest-bit-3 : tie.Need-array-read-lowest-bit-3
-array-read-lowest-bit-3 c = search needs
-
-lowest-bit-requires-3 : tie.Need-lowest-bit-requires-3
-lowest-bit-requires-3 c κs = search needs
-
 add-result-2 : tie.Need-add-result-2
 add-result-2 c = omega (arith, first-le (testBit (word (c .before .before .before .before .before .args .self) 2)) 64)
 
@@ -61,12 +34,6 @@ returns-3 c =
     let ok : Words p = search (needs, words-of) in
     lowest-in p 2 _ (omega arith) (below-suc p 1 (below-suc p 0 (below-zero p) (c .before .before .before .if1 .left)) (c .before .before .if2 .left))
     (inl (first-in _ (ok .fit 2) (c .before .if3 .taken))) (omega arith)
-
-array-read-lowest-bit-4 : tie.Need-array-read-lowest-bit-4
-array-read-lowest-bit-4 c = search needs
-
-lowest-bit-requires-4 : tie.Need-lowest-bit-requires-4
-lowest-bit-requires-4 c κs = search needs
 
 add-result-3 : tie.Need-add-result-3
 add-result-3 c = omega (arith, first-le (testBit (word (c .before .before .before .before .before .args .self) 3)) 64)
@@ -82,21 +49,21 @@ pub lowest-spec : {M : Type 1} → statement M
 lowest-spec =
     tie.close
     (tie.spec
-    array-read-if1
-    array-read-lowest-bit
-    lowest-bit-requires
+    (λ c. search needs)
+    (λ c. search needs)
+    (λ c κs. search needs)
     returns
-    array-read-if2
-    array-read-lowest-bit-2
-    lowest-bit-requires-2
+    (λ c. search needs)
+    (λ c. search needs)
+    (λ c κs. search needs)
     add-result
     returns-2
-    array-read-if3
-    array-read-lowest-bit-3
-    lowest-bit-requires-3
+    (λ c. search needs)
+    (λ c. search needs)
+    (λ c κs. search needs)
     add-result-2
     returns-3
-    array-read-lowest-bit-4
-    lowest-bit-requires-4
+    (λ c. search needs)
+    (λ c κs. search needs)
     add-result-3
     returns-4)

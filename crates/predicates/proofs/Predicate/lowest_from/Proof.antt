@@ -21,44 +21,11 @@ abbrev μ-loop : tie.MeasureT-loop
 returns : tie.Need-returns Inv-loop μ-loop
 returns c = sym (first-end _ _ _ (c .if1 .taken))
 
-element-mask-requires : tie.Need-element-mask-requires Inv-loop μ-loop
-element-mask-requires c κs = search needs
-
-mul-word : tie.Need-mul-word Inv-loop μ-loop
-mul-word c = search needs
-
-element-copy-out-word : tie.Need-element-copy-out-word Inv-loop μ-loop
-element-copy-out-word c = search needs
-
-shr-word : tie.Need-shr-word Inv-loop μ-loop
-shr-word c = search needs
-
-shl-word : tie.Need-shl-word Inv-loop μ-loop
-shl-word c = search needs
-
 loop-holds : tie.Need-loop-holds Inv-loop μ-loop
 loop-holds c = reached-first _ (search (needs, words-of)) _ _ _ (omega arith) (omega arith) refl
 
-mul-found : tie.Need-mul-found Inv-loop μ-loop
-mul-found c = search needs
-
-lowest-bit-requires : tie.Need-lowest-bit-requires Inv-loop μ-loop
-lowest-bit-requires c κs = search needs
-
 add-found : tie.Need-add-found Inv-loop μ-loop
 add-found c = omega (arith, c .before .before .loop .inv .place, first-le (testBit (c .before .before .loop .word)) 64)
-
-add-i : tie.Need-add-i Inv-loop μ-loop
-add-i c = search needs
-
-mul-word-2 : tie.Need-mul-word-2 Inv-loop μ-loop
-mul-word-2 c = search needs
-
-element-copy-out-word-2 : tie.Need-element-copy-out-word-2 Inv-loop μ-loop
-element-copy-out-word-2 c = search needs
-
-loop-less : tie.Need-loop-less Inv-loop μ-loop
-loop-less c = search needs
 
 loop-again : tie.Need-loop-again Inv-loop μ-loop
 loop-again c = reached-next (c .before .before .before .loop .inv) (search (needs, words-of)) (omega arith) (c .before .before .if2 .left) (omega arith)
@@ -83,19 +50,19 @@ lowest-from-spec =
     Inv-loop
     μ-loop
     returns
-    element-mask-requires
-    mul-word
-    element-copy-out-word
-    shr-word
-    shl-word
+    (λ c κs. search needs)
+    (λ c. search needs)
+    (λ c. search needs)
+    (λ c. search needs)
+    (λ c. search needs)
     loop-holds
-    mul-found
-    lowest-bit-requires
+    (λ c. search needs)
+    (λ c κs. search needs)
     add-found
-    add-i
-    mul-word-2
-    element-copy-out-word-2
-    loop-less
+    (λ c. search needs)
+    (λ c. search needs)
+    (λ c. search needs)
+    (λ c. search needs)
     loop-again
     returns-2
     returns-3)

@@ -8,14 +8,8 @@ use Rattle.predicates.proofs.Predicate.next_active.Tie as tie
 returns : tie.Need-returns
 returns c = sym (first-end _ _ _ (c .if1 .taken))
 
-is-active-requires : tie.Need-is-active-requires
-is-active-requires c κs = search needs
-
 returns-2 : tie.Need-returns-2
 returns-2 c = sym (first-hit _ _ _ (c .before .before .if1 .left) (sym (c .before .is-active .ensures) ∙ c .if2 .taken))
-
-next-after-requires : tie.Need-next-after-requires
-next-after-requires c κs = search needs
 
 returns-3 : tie.Need-returns-3
 returns-3 c =
@@ -27,7 +21,7 @@ next-active-spec =
     tie.close
     (tie.spec
     returns
-    is-active-requires
+    (λ c κs. search needs)
     returns-2
-    next-after-requires
+    (λ c κs. search needs)
     returns-3)

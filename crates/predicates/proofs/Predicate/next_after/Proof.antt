@@ -34,17 +34,8 @@ returns c =
     let past = past-bits k (a .start + 1) (omega arith) in
     next-none k (active k (a .self)) (a .start + 1) (a .elements) _ (sym (first-end _ _ _ past)) (active-past k (a .self) (search (needs, words-of))) (omega arith) past
 
-shift-requires : tie.Need-shift-requires
-shift-requires c κs = search needs
-
-add-lowest-from : tie.Need-add-lowest-from
-add-lowest-from c = search needs
-
 shl-lowest-from : tie.Need-shl-lowest-from
 shl-lowest-from c = omega (arith, c .shift .ensures, shift-lt (c .before .before .args .size))
-
-lowest-from-requires : tie.Need-lowest-from-requires
-lowest-from-requires c κs = search needs
 
 returns-2 : tie.Need-returns-2
 returns-2 c =
@@ -74,10 +65,10 @@ next-after-spec =
     tie.close
     (tie.spec
     returns
-    shift-requires
-    add-lowest-from
+    (λ c κs. search needs)
+    (λ c. search needs)
     shl-lowest-from
-    lowest-from-requires
+    (λ c κs. search needs)
     returns-2
     shr-e
     returns-3

@@ -24,9 +24,6 @@ elsewhere : (b at : ℕ) → (b < at) ⊎ (at + 64 ≤ b) → 0 ≡ number (λ i
 elsewhere b at (inl h) = sym (number-none (λ i. eqb i b) at 64 (λ i l. ne-eqb (at + i) b (omega arith)))
 elsewhere b at (inr h) = sym (number-none (λ i. eqb i b) at 64 (λ i l. ne-eqb (at + i) b (omega arith)))
 
-shl-bit : tie.Need-shl-bit
-shl-bit c = search needs
-
 returns : tie.Need-returns
 returns c =
     let b = c .before .args .b in
@@ -47,11 +44,8 @@ returns-4 c =
     let b = c .before .before .before .before .args .b in
     four-words (λ i. eqb i b) _ _ _ _ (elsewhere b 0 (inr (omega arith))) (elsewhere b 64 (inr (omega arith))) (elsewhere b 128 (inr (omega arith))) (here b 192 (omega arith) (omega arith) (omega arith))
 
-none-requires : tie.Need-none-requires
-none-requires c κs = search needs
-
 returns-5 : tie.Need-returns-5
 returns-5 c = c .none .ensures ∙ pack-cong _ _ (λ i l. sym (ne-eqb i (c .before .before .before .before .before .args .b) (omega arith)))
 
 pub only-spec : {M : Type 1} → statement M
-only-spec = tie.close (tie.spec shl-bit returns returns-2 returns-3 returns-4 none-requires returns-5)
+only-spec = tie.close (tie.spec (λ c. search needs) returns returns-2 returns-3 returns-4 (λ c κs. search needs) returns-5)

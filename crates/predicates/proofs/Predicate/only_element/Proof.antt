@@ -11,20 +11,11 @@ use Rattle.predicates.proofs.Live.{only-element, no-element}
 use Rattle.predicates.proofs.Predicate.only_element.Statement.{statement}
 use Rattle.predicates.proofs.Predicate.only_element.Tie as tie
 
-none-requires : tie.Need-none-requires
-none-requires c κs = search needs
-
 returns : tie.Need-returns
 returns c = c .none .ensures ∙ no-element (shift (c .before .before .args .size)) (c .before .before .args .e) (c .before .if1 .taken)
 
-shift-requires : tie.Need-shift-requires
-shift-requires c κs = search needs
-
 shl-only : tie.Need-shl-only
 shl-only c = omega (arith, shift-lt (c .before .before .args .size))
-
-only-requires : tie.Need-only-requires
-only-requires c κs = search needs
 
 returns-2 : tie.Need-returns-2
 returns-2 c =
@@ -36,4 +27,4 @@ returns-2 c =
 
 pub only-element-spec : {M : Type 1} → statement M
 only-element-spec =
-    tie.close (tie.spec none-requires returns shift-requires shl-only only-requires returns-2)
+    tie.close (tie.spec (λ c κs. search needs) returns (λ c κs. search needs) shl-only (λ c κs. search needs) returns-2)

@@ -10,17 +10,8 @@ use Rattle.predicates.proofs.ElementBits.{span-minus}
 use Rattle.predicates.proofs.Predicate.span.Statement.{statement}
 use Rattle.predicates.proofs.Predicate.span.Tie as tie
 
-first-requires : tie.Need-first-requires
-first-requires c κs = search needs
-
 returns : tie.Need-returns
 returns c = c .before .first .ensures ∙ ap (λ (from : ℕ). spanOf (shift (c .before .before .args .size)) from (c .before .before .args .to)) (sym (c .if1 .taken))
-
-first-requires-2 : tie.Need-first-requires-2
-first-requires-2 c κs = search needs
-
-and-not-requires : tie.Need-and-not-requires
-and-not-requires c κs = search needs
 
 returns-2 : tie.Need-returns-2
 returns-2 c =
@@ -29,4 +20,4 @@ returns-2 c =
     ∙ span-minus (shift (c .before .before .before .before .args .size)) (c .before .before .before .before .args .from) (c .before .before .before .before .args .to)
 
 pub span-spec : {M : Type 1} → statement M
-span-spec = tie.close (tie.spec first-requires returns first-requires-2 and-not-requires returns-2)
+span-spec = tie.close (tie.spec (λ c κs. search needs) returns (λ c κs. search needs) (λ c κs. search needs) returns-2)

@@ -8,18 +8,6 @@ use Rattle.registers.proofs.Registers.{length-mapped}
 use Rattle.registers.proofs.State.read_counts.Statement.{statement}
 use Rattle.registers.proofs.State.read_counts.Tie as tie
 
-mul-result : tie.Need-mul-result
-mul-result c = search needs
-
-element-copy-out-result : tie.Need-element-copy-out-result
-element-copy-out-result c = search needs
-
-returns : tie.Need-returns
-returns c = search needs
-
-none-requires : tie.Need-none-requires
-none-requires c κs = search needs
-
 returns-2 : tie.Need-returns-2
 returns-2 c =
     let l : length (c .before .before .args .t1 .counts) ≡ 16 = search (needs, length-mapped) in
@@ -27,4 +15,4 @@ returns-2 c =
 
 pub read-counts-spec : {M : Type 1} → statement M
 read-counts-spec =
-    tie.close (tie.spec mul-result element-copy-out-result returns none-requires returns-2)
+    tie.close (tie.spec (λ c. search needs) (λ c. search needs) (λ c. search needs) (λ c κs. search needs) returns-2)

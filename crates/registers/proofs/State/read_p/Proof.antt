@@ -8,17 +8,8 @@ use Rattle.registers.proofs.Registers.{length-mapped, default-any}
 use Rattle.registers.proofs.State.read_p.Statement.{statement}
 use Rattle.registers.proofs.State.read_p.Tie as tie
 
-mul-result : tie.Need-mul-result
-mul-result c = search needs
-
-element-copy-out-result : tie.Need-element-copy-out-result
-element-copy-out-result c = search needs
-
 returns : tie.Need-returns
 returns c = let l : length (c .before .before .args .t1 .p) ≡ 17 = search (needs, length-mapped) in default-any (c .before .before .args .t1 .p) (c .before .before .args .r) _ _ (omega arith)
-
-none-requires : tie.Need-none-requires
-none-requires c κs = search needs
 
 returns-2 : tie.Need-returns-2
 returns-2 c =
@@ -27,4 +18,4 @@ returns-2 c =
 
 pub read-p-spec : {M : Type 1} → statement M
 read-p-spec =
-    tie.close (tie.spec mul-result element-copy-out-result returns none-requires returns-2)
+    tie.close (tie.spec (λ c. search needs) (λ c. search needs) returns (λ c κs. search needs) returns-2)

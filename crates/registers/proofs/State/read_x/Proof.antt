@@ -6,17 +6,8 @@ use borrow.Author.Needs.{needs}
 use Rattle.registers.proofs.State.read_x.Statement.{statement}
 use Rattle.registers.proofs.State.read_x.Tie as tie
 
-mul-result : tie.Need-mul-result
-mul-result c = search needs
-
-element-copy-out-result : tie.Need-element-copy-out-result
-element-copy-out-result c = search needs
-
-returns : tie.Need-returns
-returns c = search needs
-
 returns-2 : tie.Need-returns-2
 returns-2 c = let l : length (c .before .args .t1 .x) ≡ 31 = search needs in sym (List·getD-eq-default (c .before .args .t1 .x) 0 {n = c .before .args .r} (omega arith))
 
 pub read-x-spec : {M : Type 1} → statement M
-read-x-spec = tie.close (tie.spec mul-result element-copy-out-result returns returns-2)
+read-x-spec = tie.close (tie.spec (λ c. search needs) (λ c. search needs) (λ c. search needs) returns-2)

@@ -34,23 +34,8 @@ returns c =
     let t = c .before .before .if1 .self in
     ap (beside t (a .r)) (c .of .ensures) ∙ ap (λ (s : State). beside s (a .r) (countsOf (s .vl) (a .q))) (joined (c .before .before))
 
-mul-q : tie.Need-mul-q
-mul-q c = search needs
-
-element-set-from-q : tie.Need-element-set-from-q
-element-set-from-q c = search needs
-
-of-requires : tie.Need-of-requires
-of-requires c κs = search needs
-
-mul-t12 : tie.Need-mul-t12
-mul-t12 c = search needs
-
-element-set-from-self : tie.Need-element-set-from-self
-element-set-from-self c = search needs
-
 returns-2 : tie.Need-returns-2
 returns-2 c = let l : length (c .before .before .args .t1 .counts) ≡ 16 = search (needs, length-mapped) in joined (c .before) ∙ withP-ffr _ _ _ (omega arith)
 
 pub with-p-spec : {M : Type 1} → statement M
-with-p-spec = tie.close (tie.spec mul-q element-set-from-q of-requires mul-t12 element-set-from-self returns returns-2)
+with-p-spec = tie.close (tie.spec (λ c. search needs) (λ c. search needs) (λ c κs. search needs) (λ c. search needs) (λ c. search needs) returns returns-2)

@@ -8,12 +8,6 @@ use Rattle.registers.proofs.Registers.{withX-out}
 use Rattle.registers.proofs.State.with_x.Statement.{statement}
 use Rattle.registers.proofs.State.with_x.Tie as tie
 
-mul-self : tie.Need-mul-self
-mul-self c = search needs
-
-element-write-self : tie.Need-element-write-self
-element-write-self c = search needs
-
 returns : tie.Need-returns
 unfolding withX
 returns c = refl
@@ -22,4 +16,4 @@ returns-2 : tie.Need-returns-2
 returns-2 c = let l : length (c .before .args .t1 .x) ≡ 31 = search needs in withX-out _ _ _ (omega arith)
 
 pub with-x-spec : {M : Type 1} → statement M
-with-x-spec = tie.close (tie.spec mul-self element-write-self returns returns-2)
+with-x-spec = tie.close (tie.spec (λ c. search needs) (λ c. search needs) returns returns-2)

@@ -19,45 +19,9 @@ Inv-loop p counts low n bad₀ i₀ bad i = (i ≤ n) × (n ≡ min (length p) (
 abbrev μ-loop : tie.MeasureT-loop
 μ-loop p counts low n bad₀ i₀ bad i = n - i
 
-least-requires : tie.Need-least-requires Inv-loop μ-loop
-least-requires c κs = search needs
-
 loop-holds : tie.Need-loop-holds Inv-loop μ-loop
 unfolding some
 loop-holds c = (omega arith, c .least .ensures, refl)
-
-mul-words : tie.Need-mul-words Inv-loop μ-loop
-mul-words c = search needs
-
-shared-slice-copy-out-words : tie.Need-shared-slice-copy-out-words Inv-loop μ-loop
-shared-slice-copy-out-words c = search needs
-
-mul-c : tie.Need-mul-c Inv-loop μ-loop
-mul-c c = search needs
-
-shared-slice-copy-out-c : tie.Need-shared-slice-copy-out-c Inv-loop μ-loop
-shared-slice-copy-out-c c = search needs
-
-array-read-t21 : tie.Need-array-read-t21 Inv-loop μ-loop
-array-read-t21 c = search needs
-
-array-read-t24 : tie.Need-array-read-t24 Inv-loop μ-loop
-array-read-t24 c = search needs
-
-array-read-t27 : tie.Need-array-read-t27 Inv-loop μ-loop
-array-read-t27 c = search needs
-
-array-read-t30 : tie.Need-array-read-t30 Inv-loop μ-loop
-array-read-t30 c = search needs
-
-difference-requires : tie.Need-difference-requires Inv-loop μ-loop
-difference-requires c κs = search needs
-
-add-i : tie.Need-add-i Inv-loop μ-loop
-add-i c = search needs
-
-loop-less : tie.Need-loop-less Inv-loop μ-loop
-loop-less c = search needs
 
 loop-again : tie.Need-loop-again Inv-loop μ-loop
 loop-again c =
@@ -81,18 +45,18 @@ counts-agree-spec =
     (tie.spec
     Inv-loop
     μ-loop
-    least-requires
+    (λ c κs. search needs)
     loop-holds
-    mul-words
-    shared-slice-copy-out-words
-    mul-c
-    shared-slice-copy-out-c
-    array-read-t21
-    array-read-t24
-    array-read-t27
-    array-read-t30
-    difference-requires
-    add-i
-    loop-less
+    (λ c. search needs)
+    (λ c. search needs)
+    (λ c. search needs)
+    (λ c. search needs)
+    (λ c. search needs)
+    (λ c. search needs)
+    (λ c. search needs)
+    (λ c. search needs)
+    (λ c κs. search needs)
+    (λ c. search needs)
+    (λ c. search needs)
     loop-again
     returns)

@@ -6,15 +6,6 @@ use Rattle.registers.proofs.PartLaws.{write-in, write-out}
 use Rattle.registers.proofs.parts.put_words.Statement.{statement}
 use Rattle.registers.proofs.parts.put_words.Tie as tie
 
-mul-words : tie.Need-mul-words
-mul-words c = search needs
-
-slice-set-from-words : tie.Need-slice-set-from-words
-slice-set-from-words c = search needs
-
-same-length : tie.Need-same-length
-same-length c = search needs
-
 returns : tie.Need-returns
 returns c = write-in (now (c .before .before .args .p)) (c .before .before .args .r) (c .before .before .args .q)
 
@@ -22,4 +13,4 @@ returns-2 : tie.Need-returns-2
 returns-2 c = write-out (now (c .before .args .p)) (c .before .args .r) (c .before .args .q) (omega arith)
 
 pub put-words-spec : {M : Type 1} → statement M
-put-words-spec = tie.close (tie.spec mul-words slice-set-from-words same-length returns returns-2)
+put-words-spec = tie.close (tie.spec (λ c. search needs) (λ c. search needs) (λ c. search needs) returns returns-2)

@@ -7,20 +7,8 @@ use borrow.Author.Needs.{needs}
 use Rattle.registers.proofs.parts.put_x.Statement.{statement}
 use Rattle.registers.proofs.parts.put_x.Tie as tie
 
-mul-x : tie.Need-mul-x
-mul-x c = search needs
-
-slice-write-x : tie.Need-slice-write-x
-slice-write-x c = search needs
-
-same-length : tie.Need-same-length
-same-length c = search needs
-
-returns : tie.Need-returns
-returns c = search needs
-
 returns-2 : tie.Need-returns-2
 returns-2 c = sym (set-out (now (c .before .args .x)) (c .before .args .r) (c .before .args .v) (omega arith))
 
 pub put-x-spec : {M : Type 1} → statement M
-put-x-spec = tie.close (tie.spec mul-x slice-write-x same-length returns returns-2)
+put-x-spec = tie.close (tie.spec (λ c. search needs) (λ c. search needs) (λ c. search needs) (λ c. search needs) returns-2)

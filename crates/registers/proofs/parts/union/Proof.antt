@@ -17,26 +17,8 @@ Inv-loop p q₀ i₀ q i = (i ≤ length p) × (q ≡ unionOf (predicatesOf p) i
 abbrev μ-loop : tie.MeasureT-loop
 μ-loop p q₀ i₀ q i = length p - i
 
-none-requires : tie.Need-none-requires Inv-loop μ-loop
-none-requires c κs = search needs
-
 loop-holds : tie.Need-loop-holds Inv-loop μ-loop
 loop-holds c = (omega arith, c .none .ensures ∙ union-none (predicatesOf (now (c .before .args .p))))
-
-mul-words : tie.Need-mul-words Inv-loop μ-loop
-mul-words c = search needs
-
-shared-slice-copy-out-words : tie.Need-shared-slice-copy-out-words Inv-loop μ-loop
-shared-slice-copy-out-words c = search needs
-
-or-requires : tie.Need-or-requires Inv-loop μ-loop
-or-requires c κs = search needs
-
-add-i : tie.Need-add-i Inv-loop μ-loop
-add-i c = search needs
-
-loop-less : tie.Need-loop-less Inv-loop μ-loop
-loop-less c = search needs
 
 loop-again : tie.Need-loop-again Inv-loop μ-loop
 loop-again c =
@@ -55,12 +37,12 @@ union-spec =
     (tie.spec
     Inv-loop
     μ-loop
-    none-requires
+    (λ c κs. search needs)
     loop-holds
-    mul-words
-    shared-slice-copy-out-words
-    or-requires
-    add-i
-    loop-less
+    (λ c. search needs)
+    (λ c. search needs)
+    (λ c κs. search needs)
+    (λ c. search needs)
+    (λ c. search needs)
     loop-again
     returns)

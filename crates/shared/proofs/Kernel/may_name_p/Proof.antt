@@ -10,12 +10,6 @@ returns c = search (open-p, needs)
 returns-2 : tie.Need-returns-2
 returns-2 c = search (ffr-p, needs)
 
-enum-told : tie.Need-enum-told
-enum-told c = search needs
-
-enum-told-2 : tie.Need-enum-told-2
-enum-told-2 c = search needs
-
 returns-3 : tie.Need-returns-3
 returns-3 c = search (first-p, needs)
 
@@ -23,4 +17,4 @@ returns-4 : tie.Need-returns-4
 returns-4 c = search (second-p, needs)
 
 pub may-name-p-spec : {M : Type 1} → statement M
-may-name-p-spec = tie.close (tie.spec returns returns-2 enum-told enum-told-2 returns-3 returns-4)
+may-name-p-spec = tie.close (tie.spec returns returns-2 (λ c. search needs) (λ c. search needs) returns-3 returns-4)

@@ -7,12 +7,6 @@ use Rattle.shared.proofs.Kernel.may_name_x.Tie as tie
 returns : tie.Need-returns
 returns c = search (open-x, needs)
 
-enum-told : tie.Need-enum-told
-enum-told c = search needs
-
-enum-told-2 : tie.Need-enum-told-2
-enum-told-2 c = search needs
-
 returns-2 : tie.Need-returns-2
 returns-2 c = search (first-x, needs)
 
@@ -20,4 +14,4 @@ returns-3 : tie.Need-returns-3
 returns-3 c = search (second-x, needs)
 
 pub may-name-x-spec : {M : Type 1} → statement M
-may-name-x-spec = tie.close (tie.spec returns enum-told enum-told-2 returns-2 returns-3)
+may-name-x-spec = tie.close (tie.spec returns (λ c. search needs) (λ c. search needs) returns-2 returns-3)

@@ -4,21 +4,6 @@ use Rattle.shared.proofs.Naming.{refused-may, ours-may}
 use Rattle.shared.proofs.Kernel.may_step.Statement.{statement}
 use Rattle.shared.proofs.Kernel.may_step.Tie as tie
 
-decode-requires : tie.Need-decode-requires
-decode-requires c κs = search needs
-
-enum-told : tie.Need-enum-told
-enum-told c = search needs
-
-enum-known-decoded : tie.Need-enum-known-decoded
-enum-known-decoded c = search needs
-
-registers-of-requires : tie.Need-registers-of-requires
-registers-of-requires c κs = search needs
-
-may-name-requires : tie.Need-may-name-requires
-may-name-requires c κs = search needs
-
 returns : tie.Need-returns
 returns c = search (refused-may, needs) depth 9
 
@@ -29,10 +14,10 @@ pub may-step-spec : {M : Type 1} → statement M
 may-step-spec =
     tie.close
     (tie.spec
-    decode-requires
-    enum-told
-    enum-known-decoded
-    registers-of-requires
-    may-name-requires
+    (λ c κs. search needs)
+    (λ c. search needs)
+    (λ c. search needs)
+    (λ c κs. search needs)
+    (λ c κs. search needs)
     returns
     returns-2)

@@ -9,12 +9,6 @@ use borrow.Author.Needs.{needs}
 use Rattle.words.proofs.read.is_logic.Statement.{statement}
 use Rattle.words.proofs.read.is_logic.Tie as tie
 
-operation-bits-requires : tie.Need-operation-bits-requires
-operation-bits-requires c κs = search needs
-
-logic-has-word-requires : tie.Need-logic-has-word-requires
-logic-has-word-requires c κs = search needs
-
 returns : tie.Need-returns
 returns c =
     let w = c .before .before .args .w in
@@ -22,4 +16,4 @@ returns c =
     (c .logic-has-word .ensures ∙ ap (λ (n : ℕ). logicHasWord n (flag (slice 22 1 w))) (c .before .operation-bits .ensures))
 
 pub is-logic-spec : {M : Type 1} → statement M
-is-logic-spec = tie.close (tie.spec operation-bits-requires logic-has-word-requires returns)
+is-logic-spec = tie.close (tie.spec (λ c κs. search needs) (λ c κs. search needs) returns)

@@ -4,14 +4,8 @@ use Rattle.words.proofs.Placing.{table-at}
 use Rattle.words.proofs.write.places_of.Statement.{statement}
 use Rattle.words.proofs.write.places_of.Tie as tie
 
-mul-result : tie.Need-mul-result
-mul-result c = search needs
-
-array-copy-out-result : tie.Need-array-copy-out-result
-array-copy-out-result c = search needs
-
 returns : tie.Need-returns
 returns c = table-at (c .before .args .form) _ (search needs)
 
 pub places-of-spec : {M : Type 1} → statement M
-places-of-spec = tie.close (tie.spec mul-result array-copy-out-result returns)
+places-of-spec = tie.close (tie.spec (λ c. search needs) (λ c. search needs) returns)

@@ -20,38 +20,14 @@ Inv-loop row form low width word₀ k₀ word k =
 abbrev μ-loop : tie.MeasureT-loop
 μ-loop row form low width word₀ k₀ word k = 8 - k
 
-array-read-form : tie.Need-array-read-form Inv-loop μ-loop
-array-read-form c = search needs
-
-cast-form : tie.Need-cast-form Inv-loop μ-loop
-cast-form c = search needs
-
 returns : tie.Need-returns Inv-loop μ-loop
 returns c = search past-forms depth 6
-
-is-allowed-requires : tie.Need-is-allowed-requires Inv-loop μ-loop
-is-allowed-requires c κs = search needs
 
 returns-2 : tie.Need-returns-2 Inv-loop μ-loop
 returns-2 c = search left-out depth 6
 
-places-of-requires : tie.Need-places-of-requires Inv-loop μ-loop
-places-of-requires c κs = search needs
-
-cast-word : tie.Need-cast-word Inv-loop μ-loop
-cast-word c = search needs
-
 loop-holds : tie.Need-loop-holds Inv-loop μ-loop
 loop-holds c = (search needs, search needs, search start-sum depth 6, search start-within depth 6)
-
-add-x : tie.Need-add-x Inv-loop μ-loop
-add-x c = search needs
-
-array-read-x : tie.Need-array-read-x Inv-loop μ-loop
-array-read-x c = search needs
-
-array-read-is-within : tie.Need-array-read-is-within Inv-loop μ-loop
-array-read-is-within c = search needs
 
 is-within-requires : tie.Need-is-within-requires Inv-loop μ-loop
 is-within-requires c κs = search width-small depth 6
@@ -59,20 +35,8 @@ is-within-requires c κs = search width-small depth 6
 returns-3 : tie.Need-returns-3 Inv-loop μ-loop
 returns-3 c = search (needs, row-refused, too-wide) depth 9
 
-array-read-from-bit : tie.Need-array-read-from-bit Inv-loop μ-loop
-array-read-from-bit c = search needs
-
 from-bit-requires : tie.Need-from-bit-requires Inv-loop μ-loop
 from-bit-requires c κs = search low-small depth 6
-
-add-word : tie.Need-add-word Inv-loop μ-loop
-add-word c = search needs
-
-add-k : tie.Need-add-k Inv-loop μ-loop
-add-k c = search needs
-
-loop-less : tie.Need-loop-less Inv-loop μ-loop
-loop-less c = search needs
 
 loop-again : tie.Need-loop-again Inv-loop μ-loop
 loop-again c = (search needs, search needs, search (needs, more-sum) depth 9, search (needs, more-within) depth 9)
@@ -89,24 +53,24 @@ word-of-spec =
     (tie.spec
     Inv-loop
     μ-loop
-    array-read-form
-    cast-form
+    (λ c. search needs)
+    (λ c. search needs)
     returns
-    is-allowed-requires
+    (λ c κs. search needs)
     returns-2
-    places-of-requires
-    cast-word
+    (λ c κs. search needs)
+    (λ c. search needs)
     loop-holds
-    add-x
-    array-read-x
-    array-read-is-within
+    (λ c. search needs)
+    (λ c. search needs)
+    (λ c. search needs)
     is-within-requires
     returns-3
-    array-read-from-bit
+    (λ c. search needs)
     from-bit-requires
-    add-word
-    add-k
-    loop-less
+    (λ c. search needs)
+    (λ c. search needs)
+    (λ c. search needs)
     loop-again
     cast-t30
     returns-4)
