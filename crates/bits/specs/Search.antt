@@ -23,6 +23,6 @@ unfoldable pub scan : (ℕ → Bool) → ℕ → ℕ → ℕ
 scan f zero next = next
 scan f (suc n) next = pick (f next) next (scan f n (suc next))
 
--- the first number from `start` on and below n that passes; n if none does
+-- the first number from `start` on and below n that passes; n if none does, or `start` where that is past n
 abbrev pub firstFrom : (ℕ → Bool) → ℕ → ℕ → ℕ
 firstFrom f start n = scan f (n - start) start

@@ -78,9 +78,9 @@ request n got wanted = record { document = 2; number = n; got = got; wanted = wa
 one : Instruction → ℕ → ℕ → List ℕ
 one i a b = after (start a b 0 0) i
 
--- level 0, access off, all else zero; and the replies to words there
-barred : State
-barred = made 128 0 false (flagsOf 0) (replicate 31 0) (replicate 17 allFalse)
+-- access off, the level and P1 as given, all else zero
+barred : ℕ → ℕ → State
+barred level p1 = made 128 level false (flagsOf 0) (replicate 31 0) (set (replicate 17 allFalse) 1 (pack (testBit p1)))
 
 -- with FFR as given, what the first instruction and then the second leave
 first-fault : ℕ → ℕ → Instruction → Instruction → List ℕ
@@ -90,8 +90,9 @@ first-fault ffr p1 i j = after (stepOf (withP (start 0 0 0 p1) 16 (pack (testBit
 written : List ℕ → List ℕ
 written ps = map (λ (p : ℕ). numberOf (stepOf (start 0 0 0 p) (wordOf (Wrffr 1)) .reply)) ps
 
-replies : List ℕ → List ℕ
-replies ws = map (λ (w : ℕ). numberOf (stepOf barred w .reply)) ws
+-- the replies to words in a state
+replies : State → List ℕ → List ℕ
+replies s ws = map (λ (w : ℕ). numberOf (stepOf s w .reply)) ws
 
 -- the counts beside a register, B first
 kept : State → ℕ → List ℕ
@@ -112,8 +113,8 @@ four : ℕ → ℕ → ℕ → ℕ → Counts
 four b h s d = record { b = b; h = h; s = s; d = d }
 
 -- request 6: counts before and after PFALSE, PNEXT and the pair WHILE, which X1 and X2 of 0 make false; right counts, and each wrong by one
--- request 5: SETFFR, and WRFFR of a run, each read by RDFFR; RDFFR under Pg without flags and with them; WRFFR of runs, empty and full, and of others; and where access is off
--- request 4: zero, and WHILELE with bit 31; BRKA, and SEL with S = 1; and WHILELE, which is ours
+-- request 5: SETFFR, and WRFFR of a run, each read by RDFFR; RDFFR under Pg without flags and with them; WRFFR of runs, empty and full, and of others; at level 0; and of no run where access is off, which comes first
+-- request 4, at level 0 with access off: zero, and WHILELE with bit 31; BRKA, and SEL with S = 1; and WHILELE, which is ours
 pub examples : List Example
 examples =
     base 1 (one (While Less true (One true 0) Sz.S 1 2) 10 13) (gives 0b1010 10 0x0111 0 0)
@@ -145,8 +146,9 @@ examples =
     ∷ request 5 (first-fault 0x003F 0x00F0 (RdffrPg 1 8) (Rdffr 0)) (gives 0b0000 0 0x003F 0x00F0 0x0030)
     ∷ request 5 (first-fault 0x003F 0x00F0 (Rdffr 8) (RdffrsPg 1 0)) (gives 0b1010 0 0x0030 0x00F0 0x003F)
     ∷ request 5 (written (0 ∷ 0x0001 ∷ 0x0FFF ∷ 0xFFFF ∷ 0x0002 ∷ 0x0005 ∷ 0xFFFE ∷ [])) (0 ∷ 0 ∷ 0 ∷ 0 ∷ 14 ∷ 14 ∷ 14 ∷ [])
-    ∷ request 5 (replies (0x25289000 ∷ 0x252C9000 ∷ [])) (2 ∷ 2 ∷ [])
-    ∷ request 4 (replies (0 ∷ 0xA5A24438 ∷ 0x25104441 ∷ 0x25434650 ∷ 0x25A24438 ∷ [])) (1 ∷ 1 ∷ 13 ∷ 13 ∷ 2 ∷ [])
+    ∷ request 5 (replies (barred 0 0) (0x25289000 ∷ 0x252C9000 ∷ [])) (2 ∷ 2 ∷ [])
+    ∷ request 5 (replies (barred 1 0x0005) (0x25289020 ∷ [])) (3 ∷ [])
+    ∷ request 4 (replies (barred 0 0) (0 ∷ 0xA5A24438 ∷ 0x25104441 ∷ 0x25434650 ∷ 0x25A24438 ∷ [])) (1 ∷ 1 ∷ 13 ∷ 13 ∷ 2 ∷ [])
     ∷ []
 
 pub as-wanted : map (λ e. e .got) examples ≡ map (λ e. e .wanted) examples

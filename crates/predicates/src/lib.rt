@@ -211,7 +211,7 @@ impl Predicate {
         self.bit(e << size.shift())
     }
 
-    // The first active element from `start` on and below `elements`, or `elements`.
+    // The first active element from `start` on and below `elements`; `elements` if there is none, or `start` where that is past them.
     pub fn next_active(self, size: Size, start: u64, elements: u64) -> u64
         ensures { λ r. ⌜ r ≡ firstFrom (active (shift size) self) start elements ⌝ }
     {

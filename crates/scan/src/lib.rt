@@ -8,7 +8,7 @@ ghost use Rattle.words.specs.Words.{sizeOf};
 use bits::Size;
 use predicates::Predicate;
 
-// The first active element from `start` on and below `elements`, or `elements`.
+// The first active element from `start` on and below `elements`; `elements` if there is none, or `start` where that is past them.
 pub fn next_active(mask: Predicate, size: Size, start: u64, elements: u64) -> u64
     ensures { λ r. ⌜ r ≡ firstFrom (active (shift size) mask) start elements ⌝ }
 {

@@ -18,7 +18,7 @@ use shared::Kernel;
 use shared::Shared;
 use shared::Stepped;
 
-// The image of a state and words; the reply (1 byte), the number of words done (4), the image of the state after.
+// The image of a state and words; the reply (1 byte), the refused word's reply (1), the number of words done (4), the image of the state after.
 const RUN: u8 = 1;
 // The reply (1 byte), an image, damaged or not, and the image that it is written back as, empty if it is refused.
 const IMAGE: u8 = 2;
