@@ -14,3 +14,4 @@ pub mod Lengths
 pub mod Untouched
 pub mod Examples
 pub mod Kept
+pub mod Replies

@@ -1,3 +1,4 @@
 pub mod Plain
 pub mod Walk
 pub mod Demand
+pub mod Given
