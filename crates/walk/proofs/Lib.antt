@@ -15,3 +15,4 @@ pub mod Untouched
 pub mod Examples
 pub mod Kept
 pub mod Replies
+pub mod Steps

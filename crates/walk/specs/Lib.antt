@@ -2,3 +2,4 @@ pub mod Plain
 pub mod Walk
 pub mod Demand
 pub mod Given
+pub mod Steps
