@@ -20,7 +20,8 @@ use Rattle.shared.specs.declared.Kernel.the-variants.{First, Second}
 use Rattle.shared.specs.declared.Shared.{Shared}
 use Rattle.shared.specs.Ownership.{ownsX, ownsP}
 use Rattle.shared.specs.Schedule.{Action, Turn, answerOf, afterAction, afterTurns, actionsOf, answersOf, Alike}
-use Rattle.shared.proofs.Actions.{nobodys, frame-alike, action-kept, action-frame, action-alike, illegal-action}
+use Rattle.shared.proofs.Naming.{nobodys}
+use Rattle.shared.proofs.Actions.{frame-alike, action-kept, action-frame, action-alike, illegal-action}
 use Rattle.shared.proofs.Isolation.{alike-self, isolation}
 
 -- ---- what is alike to both, FFR besides, is the same

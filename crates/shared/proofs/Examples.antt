@@ -37,8 +37,8 @@ use Rattle.walk.specs.Walk as Walk
 use Rattle.shared.specs.declared.Kernel.{Kernel}
 use Rattle.shared.specs.declared.Kernel.the-variants.{First, Second}
 use Rattle.shared.specs.declared.Shared.{Shared}
-use Rattle.shared.specs.Ownership.{mayNameX, mayNameP, mayName, mayStep, mayWalk}
-use Rattle.shared.specs.Shared.{stateFor, sharedAfter, standsAfter, stepOf, refusalOf, walkOf}
+use Rattle.shared.specs.Ownership.{mayNameX, mayNameP, mayName, mayWalk}
+use Rattle.shared.specs.Shared.{stateFor, sharedAfter, afterWord, stepOf, refusalOf, walkOf}
 use Rattle.shared.specs.Schedule.{Action, Turn, Alike, actionsOf}
 use Rattle.shared.specs.Schedule.Action.{step, walk}
 use Rattle.shared.proofs.Isolation.{Outcome, isolation}
@@ -83,7 +83,7 @@ examples =
     ∷ []
 
 pub as-wanted : map (λ e. e .got) examples ≡ map (λ e. e .wanted) examples
-unfolding start held replies walks examples testBit number elementBit count some afterLast scan bitAt pack active spread elements predicateLength hasBitFrom atLowest atHighest predTest nzcv flagsOf isLength hasStrayBit allCounts countsOf sameCounts hasWrongCount illegal withX withP withFlags readBy operandAt comparison allHeld whileElement counterOf counterFlags countEnd expanded whileOneOf whilePairOf whileCounterOf cntpCounterOf incDecOf cntpOf ptestOf monotonic setffrOf computeOf apply executeOf Machine.afterWord Machine.stepOf mayNameX mayNameP mayName mayStep mayWalk stateFor sharedAfter standsAfter stepOf refusalOf walkOf Walk.badRegisters Walk.refusalOf Walk.wholeOf Walk.walkOf run
+unfolding start held replies walks examples testBit number elementBit count some afterLast scan bitAt pack active spread elements predicateLength hasBitFrom atLowest atHighest predTest nzcv flagsOf isLength hasStrayBit allCounts countsOf sameCounts hasWrongCount illegal withX withP withFlags readBy operandAt comparison allHeld whileElement counterOf counterFlags countEnd expanded whileOneOf whilePairOf whileCounterOf cntpCounterOf incDecOf cntpOf ptestOf monotonic setffrOf computeOf apply executeOf mayNameX mayNameP mayName mayWalk stateFor sharedAfter afterWord stepOf refusalOf walkOf Walk.badRegisters run
 as-wanted = refl
 
 -- ---- what the theorems ask is met

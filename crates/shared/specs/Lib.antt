@@ -2,3 +2,4 @@ pub mod Ownership
 pub mod Shared
 pub mod Given
 pub mod Schedule
+pub mod Inside
