@@ -13,6 +13,7 @@ use Rattle.bits.specs.Search.{count, some, afterLast, scan}
 use Rattle.predicates.specs.PredTest.{atLowest, atHighest, predTest, nzcv, flagsOf}
 use Rattle.predicates.specs.Predicate.{bitAt, pack, active, spread, elements, predicateLength, hasBitFrom, monotonic, allFalse}
 use Rattle.tally.specs.Counts.{countsOf, sameCounts}
+use Rattle.replies.specs.declared.Reply.the-variants.{Done}
 use Rattle.replies.specs.Reply.{numberOf}
 use Rattle.registers.specs.Legal.{isLength, hasStrayBit, hasWrongCount, illegal}
 use Rattle.registers.specs.State.{allCounts, made, readX, readP, withX, withP, withFlags}
@@ -22,11 +23,14 @@ use Rattle.scalars.specs.While.{operandAt, comparison}
 use Rattle.words.specs.declared.Instruction.{Instruction}
 use Rattle.words.specs.declared.Instruction.the-variants.{While, IncDec, Cntp, CntpCounter, Ptest, Pfalse, Setffr, Wrffr, Rdffr}
 use Rattle.words.specs.declared.Target.the-variants.{One, Pair, Counter}
+use Rattle.words.specs.Layout.{fits}
 use Rattle.words.specs.Words.{readBy, wordOf}
+use Rattle.words.proofs.RoundTrip.{read-written}
 use Rattle.instructions.specs.Counter.{counterOf, counterFlags, countEnd, expanded, whileCounterOf, cntpCounterOf}
 use Rattle.instructions.specs.Counts.{incDecOf, cntpOf}
 use Rattle.instructions.specs.Ffr.{setffrOf}
 use Rattle.instructions.specs.Instructions.{computeOf}
+use Rattle.instructions.specs.Operands.{registersOf}
 use Rattle.instructions.specs.Searches.{ptestOf}
 use Rattle.instructions.specs.Whiles.{allHeld, whileElement, whileOneOf, whilePairOf}
 use Rattle.machine.specs.Execute.{apply, executeOf}
@@ -43,6 +47,7 @@ use Rattle.shared.specs.Schedule.{Action, Turn, Alike, actionsOf}
 use Rattle.shared.specs.Schedule.Action.{step, walk}
 use Rattle.shared.proofs.Isolation.{Outcome, isolation}
 use Rattle.shared.proofs.Commuting.{Commutes, commuting}
+use Rattle.shared.proofs.Replies.{counter-not-first, counter-refused}
 
 -- VL 128, level, access and X17 as given; P2 and P10 hold two words, FFR one byte, all else is zero
 start : ℕ → Bool → ℕ → Shared
@@ -134,6 +139,15 @@ isolates = isolation First held (replaced 7 0x0111 0b1010) _ _ held-kept replace
 
 commutes : Commutes held (held-kept .sized) count-words (step (wordOf (Ptest 10 10)))
 commutes = commuting held (held-kept .sized) count-words (step (wordOf (Ptest 10 10)))
+
+-- PNd 7 is P15
+counter-seconds : mayName First (registersOf (While Less true (Counter false 7) Sz.S 1 2)) ≡ false
+unfolding fits
+counter-seconds = counter-not-first Less true false 7 Sz.S 1 2 refl
+
+counter-not-done : stepOf First held (wordOf (While Less true (Counter false 7) Sz.S 1 2)) .reply ≡ Done → ⊥
+unfolding fits
+counter-not-done = counter-refused Less true false 7 Sz.S 1 2 held (wordOf (While Less true (Counter false 7) Sz.S 1 2)) (omega arith) (read-written (While Less true (Counter false 7) Sz.S 1 2) refl)
 
 -- ---- why each rule is needed: without owners, what is alike to a kernel does not decide
 

@@ -3,24 +3,31 @@ use mathlib.Core.Bool.{Bool, true, false, not}
 use mathlib.Core.List.{List}
 use mathlib.Core.Logic.{_↔_}
 use mathlib.Core.Path.{_≡_, refl, sym, ap, _∙_, subst}
-use Prim.Native.Nat.{ℕ, _≤_, _<_}
+use Prim.Native.Nat.{ℕ, _+_, _^_, _≤_, _<_}
 use native.Mathlib.Decide.{decLt}
 use native.Mathlib.Omega.{arith}
 use lib.Dec.{ltb, eqb}
 use lib.ListN.{length}
 use borrow.Author.Tests.{lt-ltb, le-ltb}
+use Rattle.bits.specs.declared.Size.{Size}
 use Rattle.bits.specs.Choice.{pick}
+use Rattle.bits.proofs.Searches.{never}
 use Rattle.replies.specs.declared.Reply.{Reply}
 use Rattle.replies.specs.declared.Reply.the-variants.{Done, ForeignWord, LevelTooLow, AccessOff, IllegalState, BadWalkRegisters, ListTooShort, UnsupportedForm, NotOwned}
 use Rattle.replies.specs.Reply.{isDone}
 use Rattle.registers.specs.declared.State.{State}
 use Rattle.registers.specs.Legal.{legal}
 use Rattle.registers.specs.State.{withFlags}
+use Rattle.scalars.specs.declared.Condition.{Condition}
 use Rattle.words.specs.declared.Decoded.{Decoded}
 use Rattle.words.specs.declared.Decoded.the-variants.{Ours, Refused}
 use Rattle.words.specs.declared.Instruction.{Instruction}
-use Rattle.words.specs.Words.{hasOpcode, decodeOf, levelOf}
+use Rattle.words.specs.declared.Instruction.the-variants.{While}
+use Rattle.words.specs.declared.Target.the-variants.{Counter}
+use Rattle.words.specs.Words.{whileCounterForm, fieldsOf, hasOpcode, decodeOf, inRange, levelOf}
+use Rattle.words.proofs.Codec.{field-below}
 use Rattle.words.proofs.Refusals.{foreign-read, unread}
+use Rattle.words.proofs.RoundTrip.{written-read}
 use Rattle.instructions.specs.Operands.{registersOf}
 use Rattle.machine.specs.Execute.{executeOf}
 use Rattle.machine.proofs.Frame.{Untouched, untouched}
@@ -32,10 +39,12 @@ use Rattle.shared.specs.declared.Shared.{Shared}
 use Rattle.shared.specs.declared.Stepped.{Stepped}
 use Rattle.shared.specs.Given.{Given}
 use Rattle.shared.specs.Given.Given.{illegal, foreign, unsupported, low, off, notOwned, done}
-use Rattle.shared.specs.Ownership.{mayName, mayWalk}
+use Rattle.shared.specs.Ownership.{mayNameP, mayName, mayWalk}
 use Rattle.shared.specs.Shared.{flagsFor, stateFor, sharedAfter, replyOf, afterWord, stepOf, refusalOf, walkOf, listOf}
 use Rattle.shared.proofs.Ways.{left-has, step-after, step-illegal, walk-refused, list-refused}
 use Rattle.shared.proofs.Actions.{other}
+use Rattle.shared.proofs.Naming.{first-p}
+use Rattle.shared.proofs.Same.{all-named}
 
 -- a word that is refused is no instruction
 refused≢ours : {r : Reply} {i : Instruction} → Refused r ≡ Ours i → ⊥
@@ -147,11 +156,10 @@ module _ (who : Kernel) (s : Shared) (w : ℕ) where
     abbrev has : State
     has = stateFor who s
 
-    -- demand 2: the instruction executed on the state with the kernel's flags, which are kept in their place
-    pub accepted-step : stepOf who s w .shared ≡ sharedAfter who s (executeOf has i)
-    accepted-step = go Done (exactly-when Done .0 accepted) refl
+    accepted-is : (mayName who (registersOf i) ≡ true) × (stepOf who s w .shared ≡ sharedAfter who s (executeOf has i))
+    accepted-is = go Done (exactly-when Done .0 accepted) refl
       where
-        go : (r : Reply) → Given who s w r → r ≡ Done → stepOf who s w .shared ≡ sharedAfter who s (executeOf has i)
+        go : (r : Reply) → Given who s w r → r ≡ Done → (mayName who (registersOf i) ≡ true) × (stepOf who s w .shared ≡ sharedAfter who s (executeOf has i))
         go IllegalState (illegal b) z = let n : _≡_ {A = ℕ} 0 1 = cc in absurd (omega arith)
         go ForeignWord (foreign ok b) z = let n : _≡_ {A = ℕ} 0 1 = cc in absurd (omega arith)
         go UnsupportedForm (unsupported ok b k) z = let n : _≡_ {A = ℕ} 0 1 = cc in absurd (omega arith)
@@ -159,14 +167,48 @@ module _ (who : Kernel) (s : Shared) (w : ℕ) where
         go AccessOff (off j ok b l a) z = let n : _≡_ {A = ℕ} 0 1 = cc in absurd (omega arith)
         go NotOwned (notOwned j ok b l a m) z = let n : _≡_ {A = ℕ} 0 1 = cc in absurd (omega arith)
         go Done (done j ok b l a m) z =
-            let k : j ≡ i = cc in
-            ap (λ (t : Stepped). t .shared) (done-is who s w ok j b l a m) ∙ ap (λ (x : Instruction). sharedAfter who s (executeOf has x)) k
+            let k : j ≡ i = cc in (
+              sym (ap (λ (x : Instruction). mayName who (registersOf x)) k) ∙ m,
+              ap (λ (t : Stepped). t .shared) (done-is who s w ok j b l a m) ∙ ap (λ (x : Instruction). sharedAfter who s (executeOf has x)) k,
+            )
+
+    -- all that it names is the kernel's
+    pub accepted-owned : mayName who (registersOf i) ≡ true
+    accepted-owned = accepted-is .0
+
+    -- demand 2: the instruction executed on the state with the kernel's flags, which are kept in their place
+    pub accepted-step : stepOf who s w .shared ≡ sharedAfter who s (executeOf has i)
+    accepted-step = accepted-is .1
 
     -- nothing that it does not name as written, and nothing of the other's flags
     pub accepted-untouched : Untouched has (stateFor who (stepOf who s w .shared)) (registersOf i) × (flagsFor (other who) (stepOf who s w .shared) ≡ flagsFor (other who) s)
     accepted-untouched =
         let state : stateFor who (stepOf who s w .shared) ≡ executeOf has i = ap (stateFor who) accepted-step ∙ left-has who s (executeOf has i) in
         (subst (λ (t : State). Untouched has t (registersOf i)) (sym state) (untouched has i), ap (flagsFor (other who)) accepted-step ∙ theirs who s (executeOf has i))
+
+-- ---- a counter WHILE
+
+-- it writes one of P8 to P15: it is never the first kernel's
+module _ (c : Condition) (u four : Bool) (pnd : ℕ) (size : Size) (rn rm : ℕ) where
+  abbrev counting : Instruction
+  counting = While c u (Counter four pnd) size rn rm
+
+  pub counter-not-first : inRange (While c u (Counter four pnd) size rn rm) ≡ true → mayName First (registersOf (While c u (Counter four pnd) size rn rm)) ≡ false
+  counter-not-first h = go (mayName First (registersOf counting)) refl
+    where
+      three-bits : pnd < 8
+      three-bits = field-below (whileCounterForm .layout) (fieldsOf counting) 7 h (omega arith)
+
+      no : mayNameP First (8 + pnd) ≡ false
+      no = sym (first-p First (8 + pnd) refl (let l = three-bits in omega arith)) ∙ le-ltb (8 + pnd) 8 (omega arith)
+
+      go : (b : Bool) → mayName First (registersOf counting) ≡ b → mayName First (registersOf counting) ≡ false
+      go true e = never (all-named First (registersOf counting) e .pd) no
+      go false e = e
+
+  -- whatever the state, the first kernel's step of such a word is refused
+  pub counter-refused : (s : Shared) (w : ℕ) → w < 2 ^ 32 → decodeOf w ≡ Ours (While c u (Counter four pnd) size rn rm) → stepOf First s w .reply ≡ Done → ⊥
+  counter-refused s w small ours accepted = never (accepted-owned First s w counting ours accepted) (counter-not-first (written-read w counting small ours .0))
 
 -- ---- a walk
 
