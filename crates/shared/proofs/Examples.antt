@@ -15,7 +15,7 @@ use Rattle.predicates.specs.Predicate.{bitAt, pack, active, spread, elements, p
 use Rattle.tally.specs.Counts.{countsOf, sameCounts}
 use Rattle.replies.specs.declared.Reply.the-variants.{Done}
 use Rattle.replies.specs.Reply.{numberOf}
-use Rattle.registers.specs.Legal.{isLength, hasStrayBit, hasWrongCount, illegal}
+use Rattle.registers.specs.Legal.{hasAllRegisters, isLength, hasStrayBit, hasWrongCount, illegal, legal}
 use Rattle.registers.specs.State.{allCounts, made, readX, readP, withX, withP, withFlags}
 use Rattle.registers.proofs.Registers.{readX-other, readP-other, readCounts-other}
 use Rattle.scalars.specs.declared.Condition.the-variants.{Less}
@@ -35,7 +35,6 @@ use Rattle.instructions.specs.Searches.{ptestOf}
 use Rattle.instructions.specs.Whiles.{allHeld, whileElement, whileOneOf, whilePairOf}
 use Rattle.machine.specs.Execute.{apply, executeOf}
 use Rattle.machine.specs.Step as Machine
-use Rattle.machine.proofs.Steps.{Kept}
 use Rattle.walk.specs.Plain.{run}
 use Rattle.walk.specs.Walk as Walk
 use Rattle.shared.specs.declared.Kernel.{Kernel}
@@ -88,22 +87,22 @@ examples =
     ∷ []
 
 pub as-wanted : map (λ e. e .got) examples ≡ map (λ e. e .wanted) examples
-unfolding start held replies walks examples testBit number elementBit count some afterLast scan bitAt pack active spread elements predicateLength hasBitFrom atLowest atHighest predTest nzcv flagsOf isLength hasStrayBit allCounts countsOf sameCounts hasWrongCount illegal withX withP withFlags readBy operandAt comparison allHeld whileElement counterOf counterFlags countEnd expanded whileOneOf whilePairOf whileCounterOf cntpCounterOf incDecOf cntpOf ptestOf monotonic setffrOf computeOf apply executeOf mayNameX mayNameP mayName mayWalk stateFor sharedAfter afterWord stepOf refusalOf walkOf Walk.badRegisters run
+unfolding start held replies walks examples testBit number elementBit count some afterLast scan bitAt pack active spread elements predicateLength hasBitFrom atLowest atHighest predTest nzcv flagsOf hasAllRegisters isLength hasStrayBit allCounts countsOf sameCounts hasWrongCount illegal withX withP withFlags readBy operandAt comparison allHeld whileElement counterOf counterFlags countEnd expanded whileOneOf whilePairOf whileCounterOf cntpCounterOf incDecOf cntpOf ptestOf monotonic setffrOf computeOf apply executeOf mayNameX mayNameP mayName mayWalk stateFor sharedAfter afterWord stepOf refusalOf walkOf Walk.badRegisters run
 as-wanted = refl
 
 -- ---- what the theorems ask is met
 
-held-kept : Kept (held .state)
-unfolding start held testBit number count some bitAt pack active elements predicateLength hasBitFrom isLength hasStrayBit allCounts countsOf sameCounts hasWrongCount illegal
-held-kept = record { legal-is = refl; sized = record { xs = refl; ps = refl; cs = refl } }
+held-kept : legal (held .state) ≡ true
+unfolding start held testBit number count some bitAt pack active elements predicateLength hasBitFrom hasAllRegisters isLength hasStrayBit allCounts countsOf sameCounts hasWrongCount illegal
+held-kept = refl
 
 -- another X17, P9 and flags of the second's
 replaced : ℕ → ℕ → ℕ → Shared
 replaced x17 p9 flags = record { state = withP (withX (held .state) 17 x17) 9 (pack (testBit p9)); second = flagsOf flags }
 
-replaced-kept : Kept (replaced 7 0x0111 0b1010 .state)
-unfolding replaced start held testBit number count some bitAt pack active elements predicateLength hasBitFrom isLength hasStrayBit allCounts countsOf sameCounts hasWrongCount illegal withX withP
-replaced-kept = record { legal-is = refl; sized = record { xs = refl; ps = refl; cs = refl } }
+replaced-kept : legal (replaced 7 0x0111 0b1010 .state) ≡ true
+unfolding replaced start held testBit number count some bitAt pack active elements predicateLength hasBitFrom hasAllRegisters isLength hasStrayBit allCounts countsOf sameCounts hasWrongCount illegal withX withP
+replaced-kept = refl
 
 -- to the first kernel they are alike
 replaced-alike : (x17 p9 flags : ℕ) → Alike First held (replaced x17 p9 flags)
@@ -137,8 +136,8 @@ isolates : Outcome First held (replaced 7 0x0111 0b1010)
 unfolding actionsOf by-first by-second
 isolates = isolation First held (replaced 7 0x0111 0b1010) _ _ held-kept replaced-kept (replaced-alike 7 0x0111 0b1010) refl
 
-commutes : Commutes held (held-kept .sized) count-words (step (wordOf (Ptest 10 10)))
-commutes = commuting held (held-kept .sized) count-words (step (wordOf (Ptest 10 10)))
+commutes : Commutes held count-words (step (wordOf (Ptest 10 10)))
+commutes = commuting held count-words (step (wordOf (Ptest 10 10)))
 
 -- PNd 7 is P15
 counter-seconds : mayName First (registersOf (While Less true (Counter false 7) Sz.S 1 2)) ≡ false
@@ -173,5 +172,5 @@ needed =
     ∷ []
 
 pub needed-as-wanted : map (λ e. e .got) needed ≡ map (λ e. e .wanted) needed
-unfolding start held replaced unowned low needed testBit number elementBit count some afterLast scan bitAt pack active spread elements predicateLength hasBitFrom atLowest atHighest predTest nzcv flagsOf isLength hasStrayBit allCounts countsOf sameCounts hasWrongCount illegal withX withP withFlags readBy operandAt comparison allHeld whileElement whileOneOf incDecOf cntpOf ptestOf monotonic setffrOf computeOf apply executeOf Machine.afterWord Machine.stepOf stateFor sharedAfter
+unfolding start held replaced unowned low needed testBit number elementBit count some afterLast scan bitAt pack active spread elements predicateLength hasBitFrom atLowest atHighest predTest nzcv flagsOf hasAllRegisters isLength hasStrayBit allCounts countsOf sameCounts hasWrongCount illegal withX withP withFlags readBy operandAt comparison allHeld whileElement whileOneOf incDecOf cntpOf ptestOf monotonic setffrOf computeOf apply executeOf Machine.afterWord Machine.stepOf stateFor sharedAfter
 needed-as-wanted = refl

@@ -21,7 +21,7 @@ use Rattle.registers.specs.declared.State.{State}
 use Rattle.registers.specs.Legal.{legal}
 use Rattle.replies.specs.Reply.{numberOf}
 use Rattle.registers.specs.State.{readX}
-use Rattle.registers.proofs.Legality.{legal-has, quads}
+use Rattle.registers.proofs.Legality.{legal-has, legal-sized, quads}
 use Rattle.words.specs.Words.{sizeOf}
 use Rattle.machine.proofs.Steps.{pick-yes, pick-no}
 use Rattle.walk.specs.Given.{GoodRegisters, Accepted}
@@ -41,9 +41,6 @@ not-false false e = sym e
 
 -- what the types of a call's arguments say of its state
 pub record Typed (s : State) : Type 0 where
-  pub xs : length (s .x) ≡ 31
-  pub ps : length (s .p) ≡ 17
-  pub cs : length (s .counts) ≡ 16
   pub fits : (i : ℕ) → readX s i < 2 ^ 64
 
 pub x-fits : (s : State) → ((i : ℕ) → Fits w64 (getD (s .x) i 0)) → (i : ℕ) → readX s i < 2 ^ 64
@@ -182,6 +179,7 @@ accepted-within size n m d k s l typed e =
     let a = accepted-when size n m d k s (length l) .1 e in
     let g = a .registers in
     let start : n ≡ 31 → ⊥ = g .not-31 in
+    let sized = legal-sized s (a .legal-is) in
     record {
       n-below = omega arith;
       m-below = omega arith;
@@ -189,9 +187,9 @@ accepted-within size n m d k s l typed e =
       d-below = omega arith;
       k-below = omega arith;
       other-p = g .two-p;
-      xs = typed .xs;
-      ps = typed .ps;
-      cs = typed .cs;
+      xs = sized .xs;
+      ps = sized .ps;
+      cs = sized .cs;
       ok = a .legal-is;
       lanes = lanes-there s (sizeOf size) (a .legal-is);
       start-fits = typed .fits n;

@@ -12,7 +12,6 @@ use Rattle.bits.specs.Size.{shift}
 use Rattle.bits.proofs.Sizes.{shift-lt}
 use Rattle.replies.specs.declared.Reply.the-variants.{Done, FieldPastRange}
 use Rattle.registers.specs.declared.State.{State}
-use Rattle.registers.proofs.Registers.{Sized}
 use Rattle.words.specs.declared.Encoded.the-variants as Enc
 use Rattle.words.specs.declared.Instruction.{Instruction}
 use Rattle.words.specs.Layout.{fits}
@@ -92,23 +91,23 @@ unfolding encodeOf
 has-word i h = ap (λ (b : Bool). pick b (Enc.Word (wordOf i)) (Enc.Refused FieldPastRange)) h
 
 -- for an accepted walk, at every budget at which it has not ended
-pub walk-steps : (size n m d k : ℕ) (s : State) (l : List ℕ) → Sized s → refusalOf size n m d k s (length l) ≡ Done
+pub walk-steps : (size n m d k : ℕ) (s : State) (l : List ℕ) → refusalOf size n m d k s (length l) ≡ Done
     → (b : ℕ) → plainWalk (sizeOf size) n m d k b s l .ended ≡ false
     → IsStep (instructionAt (sizeOf size) n m d k (plainWalk (sizeOf size) n m d k b s l .next)) (plainWalk (sizeOf size) n m d k b s l .state) (plainWalk (sizeOf size) n m d k (b + 1) s l .state)
-walk-steps size n m d k s l sized e b on =
+walk-steps size n m d k s l e b on =
     let a = accepted-when size n m d k s (length l) .1 e in
     let g = a .registers in
     let w = plainWalk (sizeOf size) n m d k b s l in
     let i = instructionAt (sizeOf size) n m d k (w .next) in
     let fits : inRange i ≡ true = in-range (sizeOf size) n m d k (omega arith) (omega arith) (omega arith) (omega arith) (w .next) in
-    let kept = plain-kept (sizeOf size) n m d k b s l (record { legal-is = a .legal-is; sized = sized }) in
+    let kept = plain-kept (sizeOf size) n m d k b s l (a .legal-is) in
     let settings = plain-settings (sizeOf size) n m d k b s l in
     let enough : levelOf i ≤ w .state .level = omega (arith, level-one (sizeOf size) n m d k (w .next), settings .level) in
     let executed = turn-executes (sizeOf size) n m d k b s l on in
     record {
       written = has-word i fits;
       accepted =
-          instruction-accepted (w .state) i fits (kept .legal-is) enough (settings .access ∙ a .on) (takes-any (sizeOf size) n m d k (w .next) (w .state))
+          instruction-accepted (w .state) i fits kept enough (settings .access ∙ a .on) (takes-any (sizeOf size) n m d k (w .next) (w .state))
           ∙ ap (answered Done) (sym executed);
       executed = executed;
     }
