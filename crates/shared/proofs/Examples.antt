@@ -3,17 +3,20 @@
 use mathlib.Core.Bool.{Bool, true, false}
 use mathlib.Core.List.{List, [], _∷_, map}
 use mathlib.Core.Path.{_≡_, refl, sym}
-use Prim.Native.Nat.{ℕ}
+use Prim.Native.Nat.{ℕ, zero, suc, _^_, _≤_, _<_}
+use native.Mathlib.Decide.{ℕ-discrete}
 use native.Mathlib.Omega.{arith}
-use lib.ListN.{set, replicate, getD}
+use lib.ListN.{set, replicate, length, getD}
+use lib.Seq.{getD-set-other}
 use borrow.Author.Tests.{ltb-true}
 use Rattle.bits.specs.declared.Size.the-variants as Sz
 use Rattle.bits.specs.Bits.{testBit, number, elementBit}
 use Rattle.bits.specs.Search.{count, some, afterLast, scan}
+use Rattle.bits.proofs.Searches.{never}
 use Rattle.predicates.specs.PredTest.{atLowest, atHighest, predTest, nzcv, flagsOf}
 use Rattle.predicates.specs.Predicate.{bitAt, pack, active, spread, elements, predicateLength, hasBitFrom, monotonic, allFalse}
 use Rattle.tally.specs.Counts.{countsOf, sameCounts}
-use Rattle.replies.specs.declared.Reply.the-variants.{Done}
+use Rattle.replies.specs.declared.Reply.the-variants.{Done, LevelTooLow, AccessOff, IllegalState, BadWalkRegisters, ListTooShort, BudgetSpent, NotOwned}
 use Rattle.replies.specs.Reply.{numberOf}
 use Rattle.registers.specs.Legal.{hasAllRegisters, isLength, hasStrayBit, hasWrongCount, illegal, legal}
 use Rattle.registers.specs.State.{allCounts, made, readX, readP, withX, withP, withFlags}
@@ -37,9 +40,13 @@ use Rattle.machine.specs.Execute.{apply, executeOf}
 use Rattle.machine.specs.Step as Machine
 use Rattle.walk.specs.Plain.{run}
 use Rattle.walk.specs.Walk as Walk
+use Rattle.walk.specs.Given.{GoodRegisters}
+use Rattle.walk.proofs.Accepted.{Typed}
 use Rattle.shared.specs.declared.Kernel.{Kernel}
 use Rattle.shared.specs.declared.Kernel.the-variants.{First, Second}
 use Rattle.shared.specs.declared.Shared.{Shared}
+use Rattle.shared.specs.GivenWalk.{Owned, Accepted}
+use Rattle.shared.specs.GivenWalk.Given.{illegal as row-4, bad as row-10, low as row-2, off as row-3, notOwned as row-15, short as row-11, spent as row-12, done as row-0}
 use Rattle.shared.specs.Ownership.{mayNameX, mayNameP, mayName, mayWalk}
 use Rattle.shared.specs.Shared.{stateFor, sharedAfter, afterWord, stepOf, refusalOf, walkOf}
 use Rattle.shared.specs.Schedule.{Action, Turn, Alike, actionsOf}
@@ -47,6 +54,7 @@ use Rattle.shared.specs.Schedule.Action.{step, walk}
 use Rattle.shared.proofs.Isolation.{Outcome, isolation}
 use Rattle.shared.proofs.Commuting.{Commutes, commuting}
 use Rattle.shared.proofs.Replies.{counter-not-first, counter-refused}
+use Rattle.shared.proofs.Walks.{accepted-when, walk-exactly-when}
 
 -- VL 128, level, access and X17 as given; P2 and P10 hold two words, FFR one byte, all else is zero
 start : ℕ → Bool → ℕ → Shared
@@ -147,6 +155,70 @@ counter-seconds = counter-not-first Less true false 7 Sz.S 1 2 refl
 counter-not-done : stepOf First held (wordOf (While Less true (Counter false 7) Sz.S 1 2)) .reply ≡ Done → ⊥
 unfolding fits
 counter-not-done = counter-refused Less true false 7 Sz.S 1 2 held (wordOf (While Less true (Counter false 7) Sz.S 1 2)) (omega arith) (read-written (While Less true (Counter false 7) Sz.S 1 2) refl)
+
+-- what reply 10 asks of numbers, for words
+good : (n m d k : ℕ) → n ≤ 30 → m ≤ 31 → d ≤ 15 → k ≤ 15 → (n ≡ m → ⊥) → (d ≡ k → ⊥) → GoodRegisters 2 n m d k
+good n m d k hn hm hd hk x p = record { start = omega arith; limit = hm; lanes = hd; cursor = hk; element = omega arith; not-31 = λ e. omega arith; two-x = x; two-p = p }
+
+-- from X16, which is 0, to X17, with lanes P8 and cursor P9: the second's own
+numbers : GoodRegisters 2 16 17 8 9
+numbers = good 16 17 8 9 (omega arith) (omega arith) (omega arith) (omega arith) (λ e. omega arith) (λ e. omega arith)
+
+seconds-own : Owned Second 16 17 8 9
+seconds-own = record { start = refl; limit = refl; lanes = refl; cursor = refl }
+
+not-firsts : Owned First 16 17 8 9 → ⊥
+not-firsts o = never (o .start) refl
+
+-- to 5, with at least 5 places: the premises of demand 3 hold, and nothing is refused
+premises : (places : ℕ) → 5 ≤ places → Accepted Second 2 16 17 8 9 (start 3 true 5) places
+unfolding start testBit number count some bitAt pack active elements predicateLength hasBitFrom hasAllRegisters isLength hasStrayBit allCounts countsOf sameCounts hasWrongCount illegal
+premises places h = record { ordinary = record { legal-is = refl; registers = numbers; present = omega arith; on = refl; room = h }; owned = seconds-own }
+
+accepts : (places : ℕ) → 5 ≤ places → refusalOf Second 2 16 17 8 9 (start 3 true 5) places ≡ Done
+accepts places h = accepted-when Second 2 16 17 8 9 (start 3 true 5) places .0 (premises places h)
+
+-- 31 is open to both as the limit
+to-31 : refusalOf First 2 1 31 0 1 (start 3 true 5) 0 ≡ Done
+unfolding start testBit number count some bitAt pack active elements predicateLength hasBitFrom hasAllRegisters isLength hasStrayBit allCounts countsOf sameCounts hasWrongCount illegal
+to-31 =
+    let registers = good 1 31 0 1 (omega arith) (omega arith) (omega arith) (omega arith) (λ e. omega arith) (λ e. omega arith) in
+    let owned : Owned First 1 31 0 1 = record { start = refl; limit = refl; lanes = refl; cursor = refl } in
+    accepted-when First 2 1 31 0 1 (start 3 true 5) 0 .0 (record { ordinary = record { legal-is = refl; registers = registers; present = omega arith; on = refl; room = omega arith }; owned = owned })
+
+zeros : (n i : ℕ) → _≡_ {A = ℕ} (getD (replicate n 0) i 0) 0
+zeros zero i = refl
+zeros (suc n) zero = refl
+zeros (suc n) (suc i) = zeros n i
+
+typed : (level : ℕ) (access : Bool) (x17 : ℕ) → x17 < 2 ^ 64 → Typed (start level access x17 .state)
+unfolding start
+typed level access x17 h = record { fits = fits }
+  where
+    fits : (i : ℕ) → readX (start level access x17 .state) i < 2 ^ 64
+    fits i =
+        elim (ℕ-discrete i 17) [
+          | yes e ↦ rw e h
+          | no n ↦ omega (arith, getD-set-other (replicate 31 0) 17 i x17 0 n, zeros 31 i)
+        ]
+
+-- every row of a walk's table applies to some walk: 5 + 3 · 2 + 2 instructions and one less; a place too few; the other's registers; access off; level 0; one X register twice; a level that is none
+each-reply : (l : List ℕ) → length l ≡ 5
+    → (walkOf Second 2 16 17 8 9 13 (start 3 true 5) l .reply ≡ Done) × (walkOf Second 2 16 17 8 9 12 (start 3 true 5) l .reply ≡ BudgetSpent)
+    × (walkOf Second 2 16 17 8 9 13 (start 3 true 6) l .reply ≡ ListTooShort) × (walkOf First 2 16 17 8 9 13 (start 3 true 6) l .reply ≡ NotOwned)
+    × (walkOf First 2 16 17 8 9 13 (start 3 false 6) l .reply ≡ AccessOff) × (walkOf First 2 16 17 8 9 13 (start 0 false 6) l .reply ≡ LevelTooLow)
+    × (walkOf First 2 16 16 8 9 13 (start 0 false 6) l .reply ≡ BadWalkRegisters) × (walkOf First 2 16 16 8 9 13 (start 4 false 6) l .reply ≡ IllegalState)
+unfolding start testBit number count some bitAt pack active elements predicateLength hasBitFrom hasAllRegisters isLength hasStrayBit allCounts countsOf sameCounts hasWrongCount illegal Walk.badRegisters
+each-reply l h = (
+  walk-exactly-when Second 2 16 17 8 9 13 (start 3 true 5) l (typed 3 true 5 (omega arith)) Done .1 (row-0 (premises (length l) (omega arith)) (omega arith)),
+  walk-exactly-when Second 2 16 17 8 9 12 (start 3 true 5) l (typed 3 true 5 (omega arith)) BudgetSpent .1 (row-12 (premises (length l) (omega arith)) (omega arith)),
+  walk-exactly-when Second 2 16 17 8 9 13 (start 3 true 6) l (typed 3 true 6 (omega arith)) ListTooShort .1 (row-11 refl numbers (omega arith) refl seconds-own (omega arith)),
+  walk-exactly-when First 2 16 17 8 9 13 (start 3 true 6) l (typed 3 true 6 (omega arith)) NotOwned .1 (row-15 refl numbers (omega arith) refl not-firsts),
+  walk-exactly-when First 2 16 17 8 9 13 (start 3 false 6) l (typed 3 false 6 (omega arith)) AccessOff .1 (row-3 refl numbers (omega arith) refl),
+  walk-exactly-when First 2 16 17 8 9 13 (start 0 false 6) l (typed 0 false 6 (omega arith)) LevelTooLow .1 (row-2 refl numbers refl),
+  walk-exactly-when First 2 16 16 8 9 13 (start 0 false 6) l (typed 0 false 6 (omega arith)) BadWalkRegisters .1 (row-10 refl refl),
+  walk-exactly-when First 2 16 16 8 9 13 (start 4 false 6) l (typed 4 false 6 (omega arith)) IllegalState .1 (row-4 refl),
+)
 
 -- ---- why each rule is needed: without owners, what is alike to a kernel does not decide
 

@@ -8,4 +8,5 @@ pub mod Actions
 pub mod Isolation
 pub mod Commuting
 pub mod Replies
+pub mod Walks
 pub mod Examples

@@ -36,7 +36,7 @@ module _ (who : Kernel) (r : ℕ) where
   unfolding mayNameX
   open-x h = sym (ap (λ (b : Bool). b || ownsX who r) (le-leb 31 r (omega arith)))
 
-  own-x : r ≤ 30 → ownsX who r ≡ mayNameX who r
+  pub own-x : r ≤ 30 → ownsX who r ≡ mayNameX who r
   unfolding mayNameX
   own-x h = sym (ap (λ (b : Bool). b || ownsX who r) (lt-leb 31 r (omega arith)))
 
@@ -60,7 +60,7 @@ module _ (who : Kernel) (r : ℕ) where
   unfolding mayNameP
   open-p h = sym (ap (λ (b : Bool). b || ownsP who r) (lt-ltb 16 r h))
 
-  own-p : r ≤ 16 → ownsP who r ≡ mayNameP who r
+  pub own-p : r ≤ 16 → ownsP who r ≡ mayNameP who r
   unfolding mayNameP
   own-p h = sym (ap (λ (b : Bool). b || ownsP who r) (le-ltb 16 r h))
 
