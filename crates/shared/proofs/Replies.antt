@@ -4,7 +4,6 @@ use mathlib.Core.List.{List}
 use mathlib.Core.Logic.{_↔_}
 use mathlib.Core.Path.{_≡_, refl, sym, ap, _∙_, subst}
 use Prim.Native.Nat.{ℕ, _+_, _^_, _≤_, _<_}
-use native.Mathlib.Decide.{decLt}
 use native.Mathlib.Omega.{arith}
 use lib.Dec.{ltb, eqb}
 use lib.ListN.{length}
@@ -13,24 +12,27 @@ use Rattle.bits.specs.declared.Size.{Size}
 use Rattle.bits.specs.Choice.{pick}
 use Rattle.bits.proofs.Searches.{never}
 use Rattle.replies.specs.declared.Reply.{Reply}
-use Rattle.replies.specs.declared.Reply.the-variants.{Done, ForeignWord, LevelTooLow, AccessOff, IllegalState, BadWalkRegisters, ListTooShort, UnsupportedForm, NotOwned}
+use Rattle.replies.specs.declared.Reply.the-variants.{Done, ForeignWord, LevelTooLow, AccessOff, IllegalState, BadWalkRegisters, ListTooShort, UnsupportedForm, NotMonotonic, NotOwned}
 use Rattle.replies.specs.Reply.{isDone}
 use Rattle.registers.specs.declared.State.{State}
 use Rattle.registers.specs.Legal.{legal}
 use Rattle.registers.specs.State.{withFlags}
 use Rattle.scalars.specs.declared.Condition.{Condition}
-use Rattle.words.specs.declared.Decoded.{Decoded}
 use Rattle.words.specs.declared.Decoded.the-variants.{Ours, Refused}
 use Rattle.words.specs.declared.Instruction.{Instruction}
-use Rattle.words.specs.declared.Instruction.the-variants.{While}
+use Rattle.words.specs.declared.Instruction.the-variants.{While, Wrffr}
 use Rattle.words.specs.declared.Target.the-variants.{Counter}
-use Rattle.words.specs.Words.{whileCounterForm, fieldsOf, hasOpcode, decodeOf, inRange, levelOf}
+use Rattle.words.specs.Words.{whileCounterForm, fieldsOf, decodeOf, inRange, levelOf}
 use Rattle.words.proofs.Codec.{field-below}
 use Rattle.words.proofs.Refusals.{foreign-read, unread}
 use Rattle.words.proofs.RoundTrip.{written-read}
 use Rattle.instructions.specs.Operands.{registersOf}
 use Rattle.machine.specs.Execute.{executeOf}
+use Rattle.machine.specs.Given as Rows
+use Rattle.machine.specs.Given.Given.{illegal as row-4, foreign as row-1, unsupported as row-13, low as row-2, off as row-3, broken as row-14, done as row-0}
+use Rattle.machine.specs.Step as Machine
 use Rattle.machine.proofs.Frame.{Untouched, untouched}
+use Rattle.machine.proofs.Replies as Ordinary
 use Rattle.machine.proofs.Steps.{pick-yes, pick-no}
 use Rattle.walk.specs.Walk.{badRegisters, distance}
 use Rattle.shared.specs.declared.Kernel.{Kernel}
@@ -41,14 +43,10 @@ use Rattle.shared.specs.Given.{Given}
 use Rattle.shared.specs.Given.Given.{illegal, foreign, unsupported, low, off, notOwned, done}
 use Rattle.shared.specs.Ownership.{mayNameP, mayName, mayWalk}
 use Rattle.shared.specs.Shared.{flagsFor, stateFor, sharedAfter, replyOf, afterWord, stepOf, refusalOf, walkOf, listOf}
-use Rattle.shared.proofs.Ways.{left-has, step-after, step-illegal, walk-refused, list-refused}
+use Rattle.shared.proofs.Ways.{left-has, for-legal, step-after, step-illegal, walk-refused, list-refused}
 use Rattle.shared.proofs.Actions.{other}
 use Rattle.shared.proofs.Naming.{first-p}
 use Rattle.shared.proofs.Same.{all-named}
-
--- a word that is refused is no instruction
-refused≢ours : {r : Reply} {i : Instruction} → Refused r ≡ Ours i → ⊥
-refused≢ours e = let z : _≡_ {A = ℕ} 0 1 = cc in omega arith
 
 -- the other kernel's flags stay where they are
 theirs : (who : Kernel) (s : Shared) (t : State) → flagsFor (other who) (sharedAfter who s t) ≡ flagsFor (other who) s
@@ -103,33 +101,26 @@ module _ (who : Kernel) (s : Shared) (w : ℕ) where
   given-reply NotOwned (notOwned i ok h l a m) = ap (λ (t : Stepped). t .reply) (barred-is who s w ok i h l a m)
   given-reply Done (done i ok h l a m) = ap (λ (t : Stepped). t .reply) (done-is who s w ok i h l a m)
 
-  -- and one of its rows applies
+  -- and one of its rows applies: an ordinary step's, with 15 for 14, and for 0 where a register is not the kernel's
   row : (r : Reply) × Given who s w r
-  row = by-legality (legal (s .state)) refl
+  unfolding stateFor withFlags
+  row = go (Machine.stepOf (stateFor who s) w .reply) (Ordinary.exactly-when (stateFor who s) w (Machine.stepOf (stateFor who s) w .reply) .0 refl)
     where
-      by-owner : (i : Instruction) → legal (s .state) ≡ true → decodeOf w ≡ Ours i → levelOf i ≤ s .state .level → s .state .access ≡ true → (b : Bool) → mayName who (registersOf i) ≡ b → (r : Reply) × Given who s w r
-      by-owner i ok h l a true m = (Done, done i ok h l a m)
-      by-owner i ok h l a false m = (NotOwned, notOwned i ok h l a m)
+      is : {b : Bool} → legal (stateFor who s) ≡ b → legal (s .state) ≡ b
+      is h = sym (for-legal who s) ∙ h
 
-      by-access : (i : Instruction) → legal (s .state) ≡ true → decodeOf w ≡ Ours i → levelOf i ≤ s .state .level → (b : Bool) → s .state .access ≡ b → (r : Reply) × Given who s w r
-      by-access i ok h l true a = by-owner i ok h l a (mayName who (registersOf i)) refl
-      by-access i ok h l false a = (AccessOff, off i ok h l a)
+      by-owner : (i : Instruction) → legal (stateFor who s) ≡ true → decodeOf w ≡ Ours i → levelOf i ≤ s .state .level → s .state .access ≡ true → (b : Bool) → mayName who (registersOf i) ≡ b → (r : Reply) × Given who s w r
+      by-owner i ok h l a true m = (Done, done i (is ok) h l a m)
+      by-owner i ok h l a false m = (NotOwned, notOwned i (is ok) h l a m)
 
-      by-opcode : legal (s .state) ≡ true → (r : Reply) → decodeOf w ≡ Refused r → (b : Bool) → hasOpcode w ≡ b → (r : Reply) × Given who s w r
-      by-opcode ok r h true o = (UnsupportedForm, unsupported ok o (λ i e. refused≢ours (sym h ∙ e)))
-      by-opcode ok r h false o = (ForeignWord, foreign ok o)
-
-      by-word : legal (s .state) ≡ true → (d : Decoded) → decodeOf w ≡ d → (r : Reply) × Given who s w r
-      by-word ok (Refused r) h = by-opcode ok r h (hasOpcode w) refl
-      by-word ok (Ours i) h =
-          elim (decLt (s .state .level) (levelOf i)) [
-            | yes l ↦ (LevelTooLow, low i ok h l)
-            | no l ↦ by-access i ok h (omega arith) (s .state .access) refl
-          ]
-
-      by-legality : (b : Bool) → legal (s .state) ≡ b → (r : Reply) × Given who s w r
-      by-legality true ok = by-word ok (decodeOf w) refl
-      by-legality false bad = (IllegalState, illegal bad)
+      go : (r : Reply) → Rows.Given (stateFor who s) w r → (q : Reply) × Given who s w q
+      go IllegalState (row-4 h) = (IllegalState, illegal (is h))
+      go ForeignWord (row-1 ok h) = (ForeignWord, foreign (is ok) h)
+      go UnsupportedForm (row-13 ok h k) = (UnsupportedForm, unsupported (is ok) h k)
+      go LevelTooLow (row-2 i ok h l) = (LevelTooLow, low i (is ok) h l)
+      go AccessOff (row-3 i ok h l a) = (AccessOff, off i (is ok) h l a)
+      go NotMonotonic (row-14 pn ok h l a m) = by-owner (Wrffr pn) ok h l a (mayName who (registersOf (Wrffr pn))) refl
+      go Done (row-0 i ok h l a m) = by-owner i ok h l a (mayName who (registersOf i)) refl
 
   pub exactly-when : (r : Reply) → (stepOf who s w .reply ≡ r) ↔ Given who s w r
   exactly-when r = (there, given-reply r)

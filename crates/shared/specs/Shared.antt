@@ -1,4 +1,5 @@
--- A step and a walk of one of two kernels: the replies in their order, and what is executed on the state with this kernel's flags.
+-- A step and a walk of one of two kernels. The replies in their order: of a step 4, 1 or 13, 2, 3, 15, 0; of a walk 4, 10, 2, 3, 15, 11, 12, 0.
+-- What nothing refuses is executed on the state with this kernel's flags.
 use Prim.Native.Nat.{ℕ}
 use mathlib.Core.Bool.{Bool, true, false, not}
 use mathlib.Core.List.{List}
