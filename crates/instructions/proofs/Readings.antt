@@ -25,7 +25,7 @@ use Rattle.predicates.proofs.Lengths.{length-quads}
 use Rattle.predicates.proofs.Live.{elements-within}
 use Rattle.predicates.proofs.Words.{pack-bit}
 use Rattle.scalars.specs.declared.Condition.{Condition}
-use Rattle.scalars.specs.While.{upward, comparison, heldOf}
+use Rattle.scalars.specs.While.{upward, comparison, allHeld}
 use Rattle.instructions.specs.Counter.{groupOf, counterOf, markOf, countEnd, counterElement, expanded, whileCounterOf, cntpCounterOf}
 use Rattle.instructions.proofs.CounterLaws.{group-most, counter-cases, count-end-le}
 use Rattle.instructions.proofs.WhileLaws.{held-le}
@@ -98,7 +98,7 @@ unfolding whileCounterOf
 while-alike i h c unsigned four size rn rm =
     let g = groupOf four (elements (128 * 2 ^ i) size) in
     let held = comparison w64 unsigned c rn rm in
-    written-alike i h (upward c) four size (heldOf held g) (held-le held g)
+    written-alike i h (upward c) four size (count (allHeld held) g) (held-le held g)
 
 -- ---- 0081: a WHILE writes it at VL 256, and it reads alike there; at VL 128 it does not, and so no WHILE writes it
 

@@ -7,31 +7,22 @@ use native.Mathlib.Omega.{arith}
 use lib.Dec.{ltb, eqb}
 use borrow.Author.Tests.{lt-ltb, le-ltb, eq-eqb, ne-eqb}
 use Rattle.bits.specs.Choice.{pick}
-use Rattle.bits.specs.Search.{some, scan, afterLast}
-use Rattle.bits.proofs.Searches.{first-found, first-le, some-yes, some-no}
+use Rattle.bits.specs.Search.{count, some, scan, afterLast}
+use Rattle.bits.proofs.Searches.{count-le}
 use Rattle.predicates.specs.declared.Flags.{Flags}
 use Rattle.predicates.specs.PredTest.{every, predTest, nzcv, atLowest, atHighest}
 use Rattle.predicates.specs.Predicate.{pack, spread, between, spanOf}
 use Rattle.predicates.proofs.Flagging.{flags-are, test-cong}
 use Rattle.predicates.proofs.Spans.{between-yes, between-before, between-after, test-first, test-last}
-use Rattle.scalars.specs.While.{heldOf}
-use Rattle.instructions.specs.Whiles.{allHeld, whileElement, lowHalf, highHalf, spanFlags}
+use Rattle.scalars.specs.While.{allHeld}
+use Rattle.scalars.proofs.Comparisons.{held-first}
+use Rattle.instructions.specs.Whiles.{whileElement, lowHalf, highHalf, spanFlags}
 
-module _ (held : ℕ → Bool) (n : ℕ) where
-  pub held-le : heldOf held n ≤ n
-  held-le = first-le (λ e. not (held e)) n
+-- of the first n comparisons
+pub held-le : (held : ℕ → Bool) (n : ℕ) → count (allHeld held) n ≤ n
+held-le held n = count-le (allHeld held) n
 
-  -- of the first n comparisons, those that held with all earlier ones are the first
-  pub held-first : (e : ℕ) → e < n → allHeld held e ≡ ltb e (heldOf held n)
-  unfolding allHeld
-  held-first e l =
-      let r = first-found (λ i. not (held i)) 0 n (omega arith) in
-      elim (decLt e (heldOf held n)) [
-        | yes k ↦ ap not (some-no _ (suc e) (λ i m. r .none i (omega arith) (omega arith))) ∙ sym (lt-ltb e (heldOf held n) k)
-        | no k ↦ ap not (some-yes (λ i. not (held i)) (suc e) (heldOf held n) (omega arith) (r .hit (omega arith))) ∙ sym (le-ltb e (heldOf held n) (omega arith))
-      ]
-
--- where they begin, and where they end
+-- where the elements begin that held with all earlier ones, and where they end
 abbrev pub startOf : Bool → ℕ → ℕ → ℕ
 startOf up c n = pick up 0 (n - c)
 
@@ -42,7 +33,7 @@ pub end-le : (up : Bool) (c n : ℕ) → c ≤ n → endOf up c n ≤ n
 end-le true c n h = h
 end-le false c n h = omega arith
 
-module _ (held : ℕ → Bool) (n c : ℕ) (is : c ≡ heldOf held n) where
+module _ (held : ℕ → Bool) (n c : ℕ) (is : c ≡ count (allHeld held) n) where
   few : c ≤ n
   few = omega (arith, held-le held n, is)
 
@@ -148,7 +139,7 @@ pub record Spanned (held : ℕ → Bool) (N : ℕ) (U : Bool) (k from to f : ℕ
   pub predicate : spanOf k from to ≡ pack (spread k (whileElement U held N))
   pub flags : f ≡ nzcv (predTest every (whileElement U held N) N)
 
-pub spanned : (held : ℕ → Bool) (n N c : ℕ) (up U : Bool) (k from to f : ℕ) → n ≡ N → up ≡ U → c ≡ heldOf held n
+pub spanned : (held : ℕ → Bool) (n N c : ℕ) (up U : Bool) (k from to f : ℕ) → n ≡ N → up ≡ U → c ≡ count (allHeld held) n
     → from ≡ startOf up c n → to ≡ endOf up c n → f ≡ nzcv (spanFlags up c n) → Spanned held N U k from to f
 unfolding spanFlags
 spanned held n N c up U k from to f en eu ec ef et eg =
@@ -165,7 +156,7 @@ pub record Halved (held : ℕ → Bool) (N : ℕ) (U : Bool) (k from low-end hig
   pub high : spanOf k high-start high-end ≡ pack (spread k (highHalf N (whileElement U held (2 * N))))
   pub flags : f ≡ nzcv (predTest every (whileElement U held (2 * N)) (2 * N))
 
-pub halved : (held : ℕ → Bool) (n N c : ℕ) (up U : Bool) (k from to low-end high-start high-end f : ℕ) → n ≡ N → up ≡ U → c ≡ heldOf held (2 * n)
+pub halved : (held : ℕ → Bool) (n N c : ℕ) (up U : Bool) (k from to low-end high-start high-end f : ℕ) → n ≡ N → up ≡ U → c ≡ count (allHeld held) (2 * n)
     → from ≡ startOf up c (2 * n) → to ≡ endOf up c (2 * n) → low-end ≡ min to n → high-start ≡ from - n → high-end ≡ to - n → f ≡ nzcv (spanFlags up c (2 * n))
     → Halved held N U k from low-end high-start high-end f
 halved held n N c up U k from to low-end high-start high-end f en eu ec ef et el eh ee eg =

@@ -12,7 +12,7 @@ use Rattle.predicates.specs.declared.Flags.{Flags}
 use Rattle.predicates.specs.declared.Predicate.{Predicate}
 use Rattle.predicates.specs.Predicate.{bitAt, pack, spread, predicateLength, elements}
 use Rattle.scalars.specs.declared.Condition.{Condition}
-use Rattle.scalars.specs.While.{upward, comparison, heldOf}
+use Rattle.scalars.specs.While.{upward, comparison, allHeld}
 use Rattle.instructions.specs.Effect.{Effect, givesX, givesPF}
 
 -- the elements of a group of two vectors, or of four
@@ -59,11 +59,11 @@ expanded vl p b =
     let j = markOf p in
     ltb j 4 && spread j (counterElement vl j (bitAt p 15) (countAbove vl j p)) b
 
--- WHILE into a counter
+-- WHILE into a counter: of the group's elements those are counted whose comparison and all earlier ones held
 unfoldable pub whileCounterOf : Condition → Bool → Bool → Size → ℕ → ℕ → ℕ → Effect
 whileCounterOf c unsigned four size rn rm vl =
     let g = groupOf four (elements vl size) in
-    let n = heldOf (comparison w64 unsigned c rn rm) g in
+    let n = count (allHeld (comparison w64 unsigned c rn rm)) g in
     givesPF (pack (testBit (counterOf (upward c) g n (shift size)))) (counterFlags (upward c) g n)
 
 -- CNTP of a counter: at the instruction's own size, the elements of a group that are true

@@ -1,23 +1,18 @@
 -- WHILE into a predicate or a pair of them.
-use Prim.Native.Nat.{ℕ, suc, _+_, _-_, _*_}
-use mathlib.Core.Bool.{Bool, not, _&&_}
+use Prim.Native.Nat.{ℕ, _+_, _-_, _*_}
+use mathlib.Core.Bool.{Bool, _&&_}
 use lib.Dec.{ltb}
 use mir.Syntax.{w64}
 use Rattle.bits.specs.declared.Size.{Size}
 use Rattle.bits.specs.Choice.{pick}
-use Rattle.bits.specs.Search.{some}
 use Rattle.bits.specs.Size.{shift}
 use Rattle.predicates.specs.declared.Flags.{Flags}
 use Rattle.predicates.specs.Predicate.{pack, spread, between, elements}
 use Rattle.predicates.specs.PredTest.{every, predTest}
 use Rattle.scalars.specs.declared.Condition.{Condition}
 use Rattle.scalars.specs.Value.{widthOf, lowOf}
-use Rattle.scalars.specs.While.{upward, comparison}
+use Rattle.scalars.specs.While.{upward, comparison, allHeld}
 use Rattle.instructions.specs.Effect.{Effect, givesPF, givesPPF}
-
--- comparison e and all earlier ones held
-unfoldable pub allHeld : (ℕ → Bool) → ℕ → Bool
-allHeld held e = not (some (λ i. not (held i)) (suc e))
 
 -- element e of n: counting up, the comparisons go from the lowest element; counting down, from the highest
 unfoldable pub whileElement : Bool → (ℕ → Bool) → ℕ → ℕ → Bool

@@ -30,9 +30,9 @@ use Rattle.instructions.specs.Ffr.{setffrOf, underMask, rdffrsPgOf}
 use Rattle.instructions.specs.Instructions.{computeOf}
 use Rattle.instructions.specs.Operands.{registersOf}
 use Rattle.instructions.specs.Searches.{pnextOf, ptestOf}
-use Rattle.instructions.specs.Whiles.{allHeld, whileElement, whileOneOf, whilePairOf}
+use Rattle.instructions.specs.Whiles.{whileElement, whileOneOf, whilePairOf}
 use Rattle.scalars.specs.Saturate.{clamp, saturating}
-use Rattle.scalars.specs.While.{operandAt, comparison}
+use Rattle.scalars.specs.While.{operandAt, comparison, allHeld}
 use Rattle.machine.specs.declared.Stepped.{Stepped}
 use Rattle.machine.specs.Execute.{valuesOf, apply, executeOf}
 use Rattle.machine.specs.Step.{afterWord, stepOf}

@@ -14,7 +14,7 @@ use borrow.Author.Tests.{le-ltb, ne-eqb, ltb-true}
 use Rattle.bits.specs.declared.Size.{Size}
 use Rattle.bits.specs.declared.Size.the-variants as Sz
 use Rattle.bits.specs.Choice.{pick}
-use Rattle.bits.specs.Search.{firstFrom}
+use Rattle.bits.specs.Search.{count, firstFrom}
 use Rattle.bits.specs.Size.{shift}
 use Rattle.bits.proofs.Searches.{digit-lt}
 use Rattle.predicates.specs.declared.Predicate.{Predicate}
@@ -41,8 +41,8 @@ use Rattle.instructions.specs.Logic.{logicResult, logicOf}
 use Rattle.instructions.specs.Ffr.{rdffrsPgOf}
 use Rattle.instructions.specs.Instructions.{whileOf, computeOf}
 use Rattle.instructions.specs.Operands.{registersOf}
-use Rattle.instructions.specs.Whiles.{allHeld, whileElement, lowHalf, highHalf, whileOneOf, whilePairOf}
-use Rattle.scalars.specs.While.{upward, comparison, heldOf}
+use Rattle.instructions.specs.Whiles.{whileElement, lowHalf, highHalf, whileOneOf, whilePairOf}
+use Rattle.scalars.specs.While.{upward, comparison, allHeld}
 use Rattle.instructions.proofs.CounterLaws.{group-most, counter-cases}
 use Rattle.instructions.proofs.WhileLaws.{held-le}
 use Rattle.instructions.proofs.LogicLaws.{logic-within}
@@ -109,7 +109,7 @@ module _ (s : State) (ok : legal s ≡ true) where
   while-within c u (Counter four pnd) size a b =
       let n = elements (s .vl) size in
       let g = groupOf four n in
-      let count-lt = counter-lt (upward c) g (heldOf (comparison w64 u c a b) g) n (shift size) (held-le (comparison w64 u c a b) g) (group-most four n) (elements-fit (s .vl) size) in
+      let count-lt = counter-lt (upward c) g (count (allHeld (comparison w64 u c a b)) g) n (shift size) (held-le (comparison w64 u c a b) g) (group-most four n) (elements-fit (s .vl) size) in
       record { pd = word-within (predicateLength (s .vl)) _ (lt-of-lt-of-le count-lt (pow-mono {i = 16} {j = predicateLength (s .vl)} pl-large)); pd2 = none }
 
   next-within : (size : Size) (v dn : Predicate) → hasBitFrom (predicateLength (s .vl)) (nextResult size v dn (s .vl)) ≡ false

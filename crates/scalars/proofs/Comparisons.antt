@@ -1,15 +1,19 @@
 -- Laws of WHILE's operand and of how many comparisons hold, over the width. Assumes nothing.
 use mathlib.Core.Bool.{Bool, true, false, not}
 use mathlib.Core.Path.{_≡_, refl, sym, ap, _∙_}
-use Prim.Native.Nat.{ℕ, _+_, _≤_, _<_}
+use Prim.Native.Nat.{ℕ, suc, _+_, _≤_, _<_}
+use native.Mathlib.Decide.{decLt}
 use native.Mathlib.Numerals.{add-one}
 use native.Mathlib.Omega.{arith}
+use lib.Dec.{ltb}
 use mir.Syntax.{Width}
-use Rattle.bits.specs.Search.{firstFrom}
-use Rattle.bits.proofs.Searches.{first-end, first-hit, first-miss}
+use borrow.Author.Tests.{lt-ltb, le-ltb}
+use Rattle.bits.specs.Search.{count, firstFrom}
+use Rattle.bits.proofs.Searches.{count-end, count-all, first-end, first-hit, first-miss, first-found, some-yes, some-no}
 use Rattle.scalars.specs.declared.Condition.{Condition}
 use Rattle.scalars.specs.Value.{valueAs}
-use Rattle.scalars.specs.While.{holds, upward, nextOperand, operandAt, comparison, heldOf}
+use Rattle.scalars.specs.Inside.{heldOf}
+use Rattle.scalars.specs.While.{holds, upward, nextOperand, operandAt, comparison, allHeld}
 
 pub operand-first : (w : Width) (up : Bool) (a : ℕ) → operandAt w up a 0 ≡ a
 unfolding operandAt
@@ -51,3 +55,28 @@ module _ (w : Width) (unsigned : Bool) (c : Condition) (a b n : ℕ) where
   -- all hold
   pub ends : (operand i : ℕ) → At w unsigned c a b n operand i → n ≤ i → i ≡ heldOf (comparison w unsigned c a b) n
   ends operand i s l = sym (first-end _ i n l) ∙ s .sought
+
+-- ---- the comparisons that held with all earlier ones
+
+module _ (held : ℕ → Bool) (n : ℕ) where
+  before-stop : (e : ℕ) → e < heldOf held n → allHeld held e ≡ true
+  unfolding allHeld
+  before-stop e l = let r = first-found (λ i. not (held i)) 0 n (omega arith) in ap not (some-no _ (suc e) (λ i m. r .none i (omega arith) (omega arith)))
+
+  from-stop : (e : ℕ) → heldOf held n ≤ e → e < n → allHeld held e ≡ false
+  unfolding allHeld
+  from-stop e h l = let r = first-found (λ i. not (held i)) 0 n (omega arith) in ap not (some-yes (λ i. not (held i)) (suc e) (heldOf held n) (omega arith) (r .hit (omega arith)))
+
+  -- are as many as hold before the first that fails, where the code stops
+  pub held-count : count (allHeld held) n ≡ heldOf held n
+  held-count =
+      let r = first-found (λ i. not (held i)) 0 n (omega arith) in
+      count-end (allHeld held) (heldOf held n) n (r .upto) from-stop ∙ count-all (allHeld held) (heldOf held n) before-stop
+
+  -- and are the first
+  pub held-first : (e : ℕ) → e < n → allHeld held e ≡ ltb e (count (allHeld held) n)
+  held-first e l =
+      elim (decLt e (heldOf held n)) [
+        | yes k ↦ before-stop e k ∙ sym (lt-ltb e (count (allHeld held) n) (omega (arith, held-count)))
+        | no k ↦ from-stop e (omega arith) l ∙ sym (le-ltb e (count (allHeld held) n) (omega (arith, held-count)))
+      ]

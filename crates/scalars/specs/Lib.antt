@@ -1,3 +1,4 @@
 pub mod Value
 pub mod While
 pub mod Saturate
+pub mod Inside

@@ -6,7 +6,7 @@ use lib.Signed.{ltZ, leZ}
 use mir.Syntax.{Width}
 use mir.Val.{bits}
 use Rattle.bits.specs.Choice.{pick}
-use Rattle.bits.specs.Search.{firstFrom}
+use Rattle.bits.specs.Search.{some}
 use Rattle.scalars.specs.declared.Condition.{Condition}
 use Rattle.scalars.specs.declared.Condition.the-variants.{Less, LessEqual, GreaterEqual, Greater}
 use Rattle.scalars.specs.Value.{valueAs}
@@ -37,6 +37,6 @@ operandAt w up a (suc e) = nextOperand w up (operandAt w up a e)
 unfoldable pub comparison : Width → Bool → Condition → ℕ → ℕ → ℕ → Bool
 comparison w unsigned c a b e = holds c (valueAs w unsigned (operandAt w (upward c) a e)) (valueAs w unsigned b)
 
--- how many of n comparisons hold before the first that fails
-abbrev pub heldOf : (ℕ → Bool) → ℕ → ℕ
-heldOf held n = firstFrom (λ e. not (held e)) 0 n
+-- comparison e and all earlier ones held
+unfoldable pub allHeld : (ℕ → Bool) → ℕ → Bool
+allHeld held e = not (some (λ i. not (held i)) (suc e))

@@ -7,8 +7,10 @@ ghost use Prim.Native.Nat.{_+_, _%_, _≤_};
 ghost use lib.IntN.{pos};
 ghost use mir.Syntax.{w32, w64};
 ghost use mir.Val.{toZ, ofZ};
+ghost use Rattle.bits.specs.Search.{count};
 ghost use Rattle.scalars.specs.Value.{widthOf, lowOf, valueAs};
-ghost use Rattle.scalars.specs.While.{holds, upward, nextOperand, comparison, heldOf};
+ghost use Rattle.scalars.specs.While.{holds, upward, nextOperand, comparison, allHeld};
+ghost use Rattle.scalars.specs.Inside.{heldOf};
 ghost use Rattle.scalars.specs.Saturate.{clamp, saturated, moved, saturating};
 
 // The comparison of a WHILE.
@@ -163,9 +165,9 @@ fn held32(condition: Condition, unsigned: bool, a: u32, b: u32, n: u64) -> u64
     i
 }
 
-// How many of `n` comparisons of a WHILE hold before the first that fails.
+// How many of `n` comparisons of a WHILE hold, each with all earlier ones.
 pub fn held(condition: Condition, unsigned: bool, wide: bool, a: u64, b: u64, n: u64) -> u64
-    ensures { λ r. ⌜ r ≡ heldOf (comparison (widthOf wide) unsigned condition (lowOf (widthOf wide) a) (lowOf (widthOf wide) b)) n ⌝ }
+    ensures { λ r. ⌜ r ≡ count (allHeld (comparison (widthOf wide) unsigned condition (lowOf (widthOf wide) a) (lowOf (widthOf wide) b))) n ⌝ }
 {
     if wide {
         return held64(condition, unsigned, a, b, n);

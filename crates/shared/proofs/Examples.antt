@@ -22,7 +22,7 @@ use Rattle.registers.specs.Legal.{hasAllRegisters, isLength, hasStrayBit, hasWr
 use Rattle.registers.specs.State.{allCounts, made, readX, readP, withX, withP, withFlags}
 use Rattle.registers.proofs.Registers.{readX-other, readP-other, readCounts-other}
 use Rattle.scalars.specs.declared.Condition.the-variants.{Less}
-use Rattle.scalars.specs.While.{operandAt, comparison}
+use Rattle.scalars.specs.While.{operandAt, comparison, allHeld}
 use Rattle.words.specs.declared.Instruction.{Instruction}
 use Rattle.words.specs.declared.Instruction.the-variants.{While, IncDec, Cntp, CntpCounter, Ptest, Pfalse, Setffr, Wrffr, Rdffr}
 use Rattle.words.specs.declared.Target.the-variants.{One, Pair, Counter}
@@ -35,7 +35,7 @@ use Rattle.instructions.specs.Ffr.{setffrOf}
 use Rattle.instructions.specs.Instructions.{computeOf}
 use Rattle.instructions.specs.Operands.{registersOf}
 use Rattle.instructions.specs.Searches.{ptestOf}
-use Rattle.instructions.specs.Whiles.{allHeld, whileElement, whileOneOf, whilePairOf}
+use Rattle.instructions.specs.Whiles.{whileElement, whileOneOf, whilePairOf}
 use Rattle.machine.specs.Execute.{apply, executeOf}
 use Rattle.machine.specs.Step as Machine
 use Rattle.walk.specs.Plain.{run}

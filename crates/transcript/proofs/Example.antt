@@ -14,8 +14,8 @@ use Rattle.words.specs.Words.{readBy}
 use Rattle.instructions.specs.Counter.{counterOf, counterFlags, whileCounterOf}
 use Rattle.instructions.specs.Instructions.{computeOf}
 use Rattle.instructions.specs.Searches.{pnextOf}
-use Rattle.instructions.specs.Whiles.{allHeld, whileElement, whileOneOf, whilePairOf}
-use Rattle.scalars.specs.While.{operandAt, comparison}
+use Rattle.instructions.specs.Whiles.{whileElement, whileOneOf, whilePairOf}
+use Rattle.scalars.specs.While.{operandAt, comparison, allHeld}
 use Rattle.machine.specs.Execute.{apply, executeOf}
 use Rattle.machine.specs.Step.{afterWord, stepOf}
 use Rattle.octets.specs.Bytes.{value, parts}

@@ -23,8 +23,8 @@ use Rattle.machine.specs.Execute.{apply, executeOf}
 use Rattle.instructions.specs.Counts.{incDecOf}
 use Rattle.instructions.specs.Instructions.{computeOf}
 use Rattle.instructions.specs.Searches.{pnextOf}
-use Rattle.instructions.specs.Whiles.{allHeld, whileElement, whileOneOf}
-use Rattle.scalars.specs.While.{operandAt, comparison}
+use Rattle.instructions.specs.Whiles.{whileElement, whileOneOf}
+use Rattle.scalars.specs.While.{operandAt, comparison, allHeld}
 use Rattle.walk.specs.Demand.{needed}
 use Rattle.walk.specs.Given.{GoodRegisters, Accepted}
 use Rattle.walk.specs.Given.Given.{illegal, bad, low, off, short, spent, done}

@@ -9,6 +9,7 @@ use lib.ListN.{length, length-set}
 use mir.Syntax.{w64}
 use borrow.Author.Tests.{lt-ltb, le-ltb}
 use Rattle.bits.specs.declared.Size.{Size}
+use Rattle.bits.specs.Search.{count}
 use Rattle.bits.specs.Size.{shift}
 use Rattle.bits.proofs.Searches.{first-is}
 use Rattle.predicates.specs.declared.Flags.{Flags}
@@ -31,7 +32,8 @@ use Rattle.instructions.specs.Operands.{none}
 use Rattle.instructions.specs.Searches.{nextResult, pnextOf}
 use Rattle.instructions.specs.Whiles.{whileElement, whileOneOf, spanFlags}
 use Rattle.scalars.specs.Value.{lowOf}
-use Rattle.scalars.specs.While.{operandAt, comparison, heldOf}
+use Rattle.scalars.specs.While.{operandAt, comparison, allHeld}
+use Rattle.scalars.proofs.Comparisons.{held-count}
 use Rattle.instructions.proofs.WhileLaws.{while-elements}
 
 -- ---- effects written
@@ -79,9 +81,9 @@ module _ (a b : ℕ) (fits : b < 2 ^ 64) where
   compared e h = ap (λ (x : ℕ). ltb x b) (operand-is e h)
 
   -- they hold up to the limit
-  pub held-is : (n : ℕ) → heldOf (comparison w64 true Less a b) n ≡ min n (b - a)
+  pub held-is : (n : ℕ) → count (allHeld (comparison w64 true Less a b)) n ≡ min n (b - a)
   held-is n =
-      sym (first-is (λ e. not (comparison w64 true Less a b e)) 0 n (min n (b - a)) record {
+      held-count (comparison w64 true Less a b) n ∙ sym (first-is (λ e. not (comparison w64 true Less a b e)) 0 n (min n (b - a)) record {
         from = omega arith;
         upto = omega arith;
         none = λ e _ h. ap not (compared e (omega arith) ∙ lt-ltb (a + e) b (omega arith));
@@ -95,7 +97,7 @@ module _ (s : State) (z : Sized s) (size : Size) where
   unfolding executeOf computeOf
   executes-pfalse k = writes-p s z none none none none none k allFalse
 
-  pub executes-held : (n m d c : ℕ) → c ≡ heldOf (comparison w64 true Less (lowOf w64 (readX s n)) (lowOf w64 (readX s m))) (elements (s .vl) size)
+  pub executes-held : (n m d c : ℕ) → c ≡ count (allHeld (comparison w64 true Less (lowOf w64 (readX s n)) (lowOf w64 (readX s m)))) (elements (s .vl) size)
       → executeOf s (While Less true (One true d) size n m) ≡ withP (withFlags s (spanFlags true c (elements (s .vl) size))) d (spanOf (shift size) 0 c)
   unfolding executeOf computeOf whileOneOf spanFlags
   executes-held n m d c is =
@@ -112,7 +114,7 @@ module _ (s : State) (z : Sized s) (size : Size) where
       let low : (x y : ℕ) → x ≡ y → y < 2 ^ 64 → x % 2 ^ 64 ≡ y = λ x y e h. ap (λ (v : ℕ). v % 2 ^ 64) e ∙ mod-eq-of-lt h in
       executes-held n m d c
       (ec ∙ sym (held-is a b hb (elements (s .vl) size))
-      ∙ ap₂ (λ (x y : ℕ). heldOf (comparison w64 true Less x y) (elements (s .vl) size)) (sym (low _ a ea ha)) (sym (low _ b eb hb)))
+      ∙ ap₂ (λ (x y : ℕ). count (allHeld (comparison w64 true Less x y)) (elements (s .vl) size)) (sym (low _ a ea ha)) (sym (low _ b eb hb)))
 
   pub executes-pnext : (d k : ℕ) (v dn q : Predicate) → readP s d ≡ v → readP s k ≡ dn → q ≡ nextResult size v dn (s .vl)
       → executeOf s (Pnext size d k) ≡ withP (withFlags s (predTest (active (shift size) v) (active (shift size) q) (elements (s .vl) size))) k q

@@ -23,7 +23,7 @@ use Rattle.replies.specs.declared.Reply.the-variants.{Done, BudgetSpent}
 use Rattle.registers.specs.State.{readX, readP, withX, withP, withFlags}
 use Rattle.scalars.specs.declared.Condition.the-variants.{Less}
 use Rattle.scalars.specs.Value.{lowOf}
-use Rattle.scalars.specs.While.{comparison, heldOf}
+use Rattle.scalars.specs.While.{comparison, allHeld}
 use Rattle.words.specs.Words.{sizeOf}
 use Rattle.instructions.specs.Whiles.{spanFlags}
 use Rattle.walk.specs.declared.Phase.{Phase}
@@ -155,7 +155,7 @@ module _ {size : Size} {n m d k budget : ℕ} {s : State} {l : List ℕ} {h : Lo
 
     pub turn-whilelo : h .phase ≡ Whilelo → {limit e c z low end from : ℕ} {v q u u′ : Predicate} {f : Flags}
         → limit ≡ readX s m → e ≡ elements (s .vl) size → v ≡ liveOf (s .vl) size
-        → c ≡ heldOf (comparison w64 true Less (lowOf w64 (h .x)) (lowOf w64 limit)) e → q ≡ spanOf (shift size) 0 c → z ≡ nzcv (spanFlags true c e) → f ≡ flagsOf z
+        → c ≡ count (allHeld (comparison w64 true Less (lowOf w64 (h .x)) (lowOf w64 limit))) e → q ≡ spanOf (shift size) 0 c → z ≡ nzcv (spanFlags true c e) → f ≡ flagsOf z
         → u ≡ pack (λ i. bitAt q i && bitAt v i) → low ≡ firstFrom (bitAt u) 0 256 → end ≡ afterLast (bitAt u) 256
         → u′ ≡ pack (λ i. bitAt (h .cursor) i && bitAt v i) → from ≡ afterLast (touched (shift size) u′) 256
         → Holds (record { list = h .list; x = h .x; lanes = q; cursor = h .cursor; flags = f; low = low; end = end; next = from; phase = Pnext; ended = eqb c 0; visited = h .visited; count = h .count + 1 })

@@ -26,7 +26,7 @@ use Rattle.scalars.specs.declared.Condition.the-variants.{Less}
 use Rattle.words.specs.declared.Target.the-variants.{One}
 use Rattle.words.specs.declared.Instruction.the-variants.{While, IncDec, Pnext, Pfalse}
 use Rattle.scalars.specs.Value.{lowOf}
-use Rattle.scalars.specs.While.{comparison, heldOf}
+use Rattle.scalars.specs.While.{comparison, allHeld}
 use Rattle.machine.specs.Execute.{executeOf}
 use Rattle.instructions.specs.Searches.{nextElement, nextResult}
 use Rattle.instructions.specs.Whiles.{spanFlags}
@@ -93,13 +93,13 @@ module _ (size : Size) (n m d k : ℕ) (s : State) (l : List ℕ) (g : Within si
     clears q e = ap (λ (p : Predicate). base s n d k x pd p f) e ∙ sym (executes-pfalse here (sized size n m d k s l g x pd pk f) size k ∙ put-pk size n m d k s l g x pd pk f allFalse f)
 
     pub selects : (limit e c w : ℕ) (q : Predicate) (h : Flags) → limit ≡ readX s m → e ≡ elements (s .vl) size
-        → c ≡ heldOf (comparison w64 true Less (lowOf w64 x) (lowOf w64 limit)) e → q ≡ spanOf (shift size) 0 c → w ≡ nzcv (spanFlags true c e) → h ≡ flagsOf w
+        → c ≡ count (allHeld (comparison w64 true Less (lowOf w64 x) (lowOf w64 limit))) e → q ≡ spanOf (shift size) 0 c → w ≡ nzcv (spanFlags true c e) → h ≡ flagsOf w
         → (base s n d k x q pk h ≡ executeOf here (While Less true (One true d) size n m)) × (h .z ≡ eqb c 0)
     unfolding withX withP withFlags
     selects limit e c w q h il ie ic iq iw ih =
         let flags = ih ∙ ap flagsOf iw ∙ flags-back _ ∙ ap (spanFlags true c) ie in
-        let held = ic ∙ ap (λ (j : ℕ). heldOf (comparison w64 true Less (lowOf w64 x) (lowOf w64 limit)) j) ie
-        ∙ ap₂ (λ (a b : ℕ). heldOf (comparison w64 true Less (lowOf w64 a) (lowOf w64 b)) (elements (s .vl) size)) (sym (get-xn size n m d k s l g x pd pk f)) (il ∙ sym (get-xm size n m d k s l g x pd pk f)) in (
+        let held = ic ∙ ap (λ (j : ℕ). count (allHeld (comparison w64 true Less (lowOf w64 x) (lowOf w64 limit))) j) ie
+        ∙ ap₂ (λ (a b : ℕ). count (allHeld (comparison w64 true Less (lowOf w64 a) (lowOf w64 b))) (elements (s .vl) size)) (sym (get-xn size n m d k s l g x pd pk f)) (il ∙ sym (get-xm size n m d k s l g x pd pk f)) in (
           ap₂ (λ (p : Predicate) (y : Flags). base s n d k x p pk y) iq flags
               ∙ sym (executes-held here (sized size n m d k s l g x pd pk f) size n m d c held ∙ put-pd size n m d k s l g x pd pk f _ _),
           ap (λ (y : Flags). y .z) (flags ∙ span-flags true c (elements (s .vl) size) c (omega (arith, held, held-le (comparison w64 true Less (lowOf w64 (readX here n)) (lowOf w64 (readX here m))) (elements (s .vl) size)))),

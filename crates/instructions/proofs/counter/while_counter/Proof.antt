@@ -7,12 +7,13 @@ use native.Mathlib.Omega.{arith}
 use mir.Syntax.{w64}
 use borrow.Author.Needs.{needs}
 use Rattle.bits.specs.Bits.{testBit}
+use Rattle.bits.specs.Search.{count}
 use Rattle.bits.specs.Size.{shift}
 use Rattle.predicates.specs.PredTest.{nzcv}
 use Rattle.predicates.specs.Predicate.{pack, elements}
 use Rattle.predicates.proofs.Live.{elements-le}
 use Rattle.scalars.specs.Value.{lowOf}
-use Rattle.scalars.specs.While.{upward, comparison, heldOf}
+use Rattle.scalars.specs.While.{upward, comparison, allHeld}
 use Rattle.instructions.specs.Counter.{groupOf, counterOf, counterFlags, whileCounterOf}
 use Rattle.instructions.proofs.CounterLaws.{group-le}
 use Rattle.instructions.proofs.Effects.{one-is}
@@ -37,10 +38,10 @@ returns c =
     let g : c .before .before .before .before .before .before .group .result ≡ groupOf (s .args .four) (elements (s .args .vl) (s .args .size)) =
     c .before .before .before .before .before .before .group .ensures in
     let held = comparison w64 (s .args .unsigned) (s .args .condition) (s .args .rn) (s .args .rm) in
-    let n : c .before .before .before .before .before .held .result ≡ heldOf held (groupOf (s .args .four) (elements (s .args .vl) (s .args .size))) =
+    let n : c .before .before .before .before .before .held .result ≡ count (allHeld held) (groupOf (s .args .four) (elements (s .args .vl) (s .args .size))) =
     c .before .before .before .before .before .held .ensures
-    ∙ ap₂ (λ (x y : ℕ). heldOf (comparison w64 (s .args .unsigned) (s .args .condition) x y) (c .before .before .before .before .before .before .group .result)) (mod-eq-of-lt (s .fits .rn .fits)) (mod-eq-of-lt (s .fits .rm .fits))
-    ∙ ap (heldOf held) g in
+    ∙ ap₂ (λ (x y : ℕ). count (allHeld (comparison w64 (s .args .unsigned) (s .args .condition) x y)) (c .before .before .before .before .before .before .group .result)) (mod-eq-of-lt (s .fits .rn .fits)) (mod-eq-of-lt (s .fits .rm .fits))
+    ∙ ap (count (allHeld held)) g in
     one-is _ _ _ _ _ (c .gives-p .ensures)
     (c .before .before .of-word .ensures
     ∙ ap (λ (x : ℕ). pack (testBit x)) (c .before .before .before .counter .ensures

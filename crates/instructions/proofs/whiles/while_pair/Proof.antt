@@ -5,11 +5,12 @@ use native.Mathlib.Nat.{mod-eq-of-lt}
 use native.Mathlib.Omega.{arith}
 use mir.Syntax.{w64}
 use borrow.Author.Needs.{needs}
+use Rattle.bits.specs.Search.{count}
 use Rattle.bits.specs.Size.{shift}
 use Rattle.predicates.specs.Predicate.{elements}
 use Rattle.predicates.proofs.Live.{elements-le}
 use Rattle.scalars.specs.Value.{lowOf}
-use Rattle.scalars.specs.While.{upward, comparison, heldOf}
+use Rattle.scalars.specs.While.{upward, comparison, allHeld}
 use Rattle.instructions.specs.Whiles.{whilePairOf}
 use Rattle.instructions.proofs.Effects.{pair-is}
 use Rattle.instructions.proofs.WhileLaws.{held-le, halved}
@@ -44,7 +45,7 @@ returns c =
     let is = halved held n (elements (s .args .vl) (s .args .size)) _ _ (upward (s .args .condition)) (shift (s .args .size)) _ _ _ _ _ _
     (c .before .before .before .before .before .before .before .before .before .before .elements .ensures) (c .before .before .before .before .before .before .before .before .counts-up .ensures)
     (c .before .before .before .before .before .before .before .before .before .held .ensures
-    ∙ ap₂ (λ (x y : ℕ). heldOf (comparison w64 (s .args .unsigned) (s .args .condition) x y) (2 * n)) (mod-eq-of-lt (s .fits .rn .fits)) (mod-eq-of-lt (s .fits .rm .fits)))
+    ∙ ap₂ (λ (x y : ℕ). count (allHeld (comparison w64 (s .args .unsigned) (s .args .condition) x y)) (2 * n)) (mod-eq-of-lt (s .fits .rn .fits)) (mod-eq-of-lt (s .fits .rm .fits)))
     (c .before .before .before .before .before .before .before .start-of .ensures) (c .before .before .before .before .before .before .end-of .ensures)
     (c .before .before .before .before .before .least .ensures) (c .before .before .before .past .ensures) (c .before .before .past2 .ensures) (c .while-flags .ensures) in
     pair-is _ _ _ _ _ _ (c .before .before .before .before .span .ensures ∙ is .low) (c .before .span2 .ensures ∙ is .high) (is .flags)
