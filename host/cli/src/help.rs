@@ -68,7 +68,7 @@ const fn repeated(key: &'static str, value: &'static str, text: &'static str) ->
     Opt { key, value: Some(value), repeats: true, text }
 }
 
-const JSON: Opt = flag("json", "print JSON, with the fields that docs/FORMAT.md has");
+const JSON: Opt = flag("json", "print JSON, with the fields that FORMAT.md has");
 
 pub const COMMANDS: &[Command] = &[
     Command {
@@ -188,6 +188,15 @@ pub const COMMANDS: &[Command] = &[
 
 pub const VERSION: &str = concat!("plokamyr ", env!("CARGO_PKG_VERSION"));
 
+/// The commit and the kit that the library and the command are built from, as host/command.sh tells them.
+pub const BUILD: &str = match option_env!("PLOKAMYR_BUILD") {
+    Some(build) => build,
+    None => "built by cargo alone",
+};
+
+pub const FORMAT: &str = "FORMAT.md has images, words, replies and JSON in full: docs/FORMAT.md in the repository, \
+                          share/doc/plokamyr/FORMAT.md below the folder that the command is installed in.";
+
 pub const ABOUT: &str = "Runs, shows, makes and compares images of Plokamyr, the predicate part of an Arm SVE interpreter, and turns words into \
                          instructions and back. An image is a file with a register state and instruction words. What an \
                          instruction does comes from the proved library.";
@@ -207,7 +216,7 @@ pub fn overview() -> String {
         page += &format!("  {:<8} {}\n", command.name, command.summary);
     }
     page += "\nplokamyr COMMAND --help has more of each, plokamyr --man the manual page; there is --version too.\n";
-    page += "A FILE may be - for standard input.\n\nExit status:\n";
+    page += &format!("A FILE may be - for standard input.\n\n{}\n\nExit status:\n", folded(FORMAT, 0));
     for (status, meaning) in STATUS {
         page += &format!("  {status:<3}  {meaning}\n");
     }

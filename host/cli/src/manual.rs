@@ -1,6 +1,6 @@
 //! The manual page, for man(1), from the table of the commands.
 
-use crate::help::{Command, ABOUT, COMMANDS, STATUS, VERSION};
+use crate::help::{Command, ABOUT, COMMANDS, FORMAT, STATUS, VERSION};
 
 /// The page in roff.
 pub fn manual() -> String {
@@ -14,7 +14,8 @@ pub fn manual() -> String {
     for (status, meaning) in STATUS {
         page += &format!(".TP\n{status}\n{}\n", roff(meaning));
     }
-    page + ".SH ENVIRONMENT\n.TP\nNO_COLOR\nIf it is set and not empty, there is no colour on a terminal either.\n"
+    page += ".SH ENVIRONMENT\n.TP\nNO_COLOR\nIf it is set and not empty, there is no colour on a terminal either.\n";
+    page + &format!(".SH FILES\n{}\n", roff(FORMAT))
 }
 
 fn section(command: &Command) -> String {
