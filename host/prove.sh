@@ -33,6 +33,16 @@ nothing_written() {
     fail "nothing can be written in $here/$1"
 }
 
+no_option() {
+    fail "there is no option $1 (try --help)"
+}
+
+# Makes the folder 'work'; the caller removes it.
+# shellcheck disable=SC2034
+make_work() {
+    work=$(mktemp -d 2> /dev/null) || fail "no temporary folder can be made"
+}
+
 # outdated FILE: what rt builds is missing, not built to the end, or older than a source. Folders count too: a file that was removed or
 # renamed makes its folder newer.
 outdated() {

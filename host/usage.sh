@@ -44,17 +44,17 @@ commands() {
     echo "${names%, *} or $last"
 }
 
-# check_words COMMAND WORDS...: its options and operands, as host/cli/src/args.rs reads them.
+# check_words COMMAND WORDS...: its options and operands, as host/cli/src/args.rs reads them, and that a file is there.
 check_words() {
-    local name operands=0 given=' '
-    read_options "$pages/$1"
+    local name operands=() given=' '
+    read_page "$pages/$1"
     shift
     while [ $# -gt 0 ]; do
         case $1 in
-        --) operands=$((operands + $# - 1)); break ;;
+        --) operands+=("${@:2}"); break ;;
         --*) name=${1%%=*} ;;
         -?*) name=${1:0:2} ;;
-        *) operands=$((operands + 1)); shift; continue ;;
+        *) operands+=("$1"); shift; continue ;;
         esac
         [ -n "${values[$name]+known}" ] || fail "there is no option $(shown "$name"); it has ${options:-none} (try --help)"
         check_value "$name" "$@" || shift
@@ -62,7 +62,14 @@ check_words() {
         given+="$name "
         shift
     done
-    [[ $operands != 0 || -z $missing ]] || fail "$missing is missing (try --help)"
+    case ${#operands[@]},$wanted in
+    0,[A-Z]*) fail "$wanted is missing (try --help)" ;;
+    1,FILE | 1,\[FILE\]) check_file "${operands[0]}" ;;
+    esac
+}
+
+check_file() {
+    [[ $1 = - || -e $1 ]] || fail "$(shown "$1") cannot be read: No such file or directory"
 }
 
 # check_value NAME WORDS...: the option that the first word is. Fails if its value is the next word.
@@ -76,19 +83,19 @@ check_value() {
     fi
 }
 
-# read_options PAGE: sets 'options', their names; 'values', what the value of each is called, with dots if it may be given again; and
-# 'missing', what the page asks for besides.
-read_options() {
+# read_page PAGE: sets 'options', their names; 'values', what the value of each is called, with dots if it may be given again; and
+# 'wanted', what else the command takes, if that is one thing.
+read_page() {
     local line
     declare -gA values=()
-    options='' missing=''
+    options='' wanted=''
     while IFS= read -r line; do
         if [[ $line =~ ^\ \ (-[^ ]+)\ ?([^ ]*)\ \  ]]; then
             values[${BASH_REMATCH[1]}]=${BASH_REMATCH[2]}
             options+="${options:+, }${BASH_REMATCH[1]}"
-        elif [[ $line =~ ^usage:\ plokamyr\ [a-z]+\ ([A-Z][^\ ]*(\ \|\ [A-Z][^\ ]*)?)(\ [-[].*)?$ ]]; then
-            missing=${BASH_REMATCH[1]//../}
-            missing=${missing/ | / or }
+        elif [[ $line =~ ^usage:\ plokamyr\ [a-z]+\ (\[?[A-Z][^\ ]*(\ \|\ [A-Z][^\ ]*)?)(\ [-[].*)?$ ]]; then
+            wanted=${BASH_REMATCH[1]//../}
+            wanted=${wanted/ | / or }
         fi
     done < "$1"
 }
