@@ -34,7 +34,7 @@ description() {
     local commit proved_by=unknown
     commit=$(git_here rev-parse --short=12 HEAD) || commit=unknown
     [ -z "$(git_here status --porcelain -- crates.txt crates host)" ] || commit+=" with changes"
-    [ "$archive.kit" -ot "$archive" ] || proved_by=$(< "$archive.kit")
+    if [ -f "$archive.kit" ] && [ ! "$archive.kit" -ot "$archive" ]; then proved_by=$(< "$archive.kit"); fi
     echo "commit $commit, kit $proved_by"
 }
 

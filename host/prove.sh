@@ -131,11 +131,14 @@ is_proved() {
     fi
 }
 
+# What a crate takes on average, from 3 to 40.
+seconds_each=18
+
 # prove WHAT WORDS...: proves the crates that are left; for the last one 'rt WORDS' is called. rt keeps the lock: what it has started
 # may outlive this script.
 prove() {
     local name count=${#left[@]} first=1 words
-    say "proving $(counted "$count" crate) and building the $1 first; that takes about $(duration $((18 * count)))"
+    say "proving $(counted "$count" crate) and building the $1 first; that takes about $(duration $((seconds_each * count)))"
     while [ ${#left[@]} -gt 0 ]; do
         next_batch
         say "proving $(numbers "$first" "$count"): $(listed "${batch[@]}")"
