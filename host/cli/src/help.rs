@@ -69,7 +69,7 @@ const fn repeated(key: &'static str, value: &'static str, text: &'static str) ->
     Opt { key, value: Some(value), repeats: true, text }
 }
 
-const JSON: Opt = flag("json", "print JSON, with the fields that docs/FORMAT.md has");
+const JSON: Opt = flag("json", "print JSON, with the fields that FORMAT.md has");
 
 pub const COMMANDS: &[Command] = &[
     Command {
@@ -199,6 +199,15 @@ pub const VERSION: &str = concat!("plokamyr ", env!("CARGO_PKG_VERSION"));
 /// When the texts here were last changed, for the manual page.
 pub const DATE: &str = "2026-11-18";
 
+/// The commit and the kit that the library and the command are built from, as host/command.sh tells them.
+pub const BUILD: &str = match option_env!("PLOKAMYR_BUILD") {
+    Some(build) => build,
+    None => "built by cargo alone",
+};
+
+pub const FORMAT: &str = "FORMAT.md has images, words, replies and JSON in full: docs/FORMAT.md in the repository, \
+                          share/doc/plokamyr/FORMAT.md below the folder that the command is installed in.";
+
 pub const ABOUT: &str = "Runs, shows, makes and compares images of Plokamyr, the predicate part of an Arm SVE interpreter, and turns words into \
                          instructions and back. An image is a file with a register state and instruction words. What an \
                          instruction does comes from the proved library.";
@@ -224,7 +233,7 @@ pub fn overview(style: Style) -> String {
         page += &format!("  {:<8} {}\n", command.name, command.summary);
     }
     page += &format!("\n{}\n", folded(MORE));
-    page += "A FILE may be - for standard input.\n\nExit status:\n";
+    page += &format!("A FILE may be - for standard input.\n\n{}\n\nExit status:\n", folded(FORMAT));
     for (status, meaning) in STATUS {
         page += &format!("  {status:<3}  {meaning}\n");
     }

@@ -43,7 +43,7 @@ pub fn answer(given: &[String], style: Style) -> Result<Outcome, Failure> {
         "-h" | "--help" => return done(help::overview(style)),
         "help" if rest.is_empty() => return done(help::overview(style)),
         "help" => return answer(&[&rest[..1], &["--help".to_string()]].concat(), style),
-        "-V" | "--version" => return done(format!("{}\n", help::VERSION)),
+        "-V" | "--version" => return done(format!("{} ({})\n", help::VERSION, help::BUILD)),
         "--man" => return done(manual::manual()),
         _ => {}
     }

@@ -1,6 +1,6 @@
 //! The manual page, for man(1), from the table of the commands.
 
-use crate::help::{Command, ABOUT, COMMANDS, DATE, ENVIRONMENT, STATUS, VERSION};
+use crate::help::{Command, ABOUT, COMMANDS, DATE, ENVIRONMENT, FORMAT, STATUS, VERSION};
 
 /// The page in roff.
 pub fn manual() -> String {
@@ -18,7 +18,7 @@ pub fn manual() -> String {
     for (name, meaning) in ENVIRONMENT {
         page += &format!(".TP\n{name}\n{}\n", roff(meaning));
     }
-    page
+    page + &format!(".SH FILES\n{}\n", roff(FORMAT))
 }
 
 fn section(command: &Command) -> String {
