@@ -93,7 +93,7 @@ pub const COMMANDS: &[Command] = &[
         text: "Shows the settings, the X that are not zero, each predicate with its count and its lanes, the lowest first, in rows \
                with the number of the first lane of each, FFR, and the flags: N says that the first active lane is true, Z that none is, \
                C that the last is not. At level 3 also what P8 to P15 are if they are read as counters: the bits do not tell a mask \
-               from a counter. A row has 64 lanes, or 32 where there are less than 88 columns.",
+               from a counter. A row has 64 lanes, or 32 where there are fewer than 88 columns.",
         list: None,
         options: &[
             option("after", "N", "the state after N words have been stepped; it stops before one that is refused, with status 1"),
