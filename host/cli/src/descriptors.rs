@@ -1,5 +1,5 @@
 //! Descriptors that the caller has closed. Rust opens /dev/null for each before `main`: output would vanish, and an empty image be
-//! read. So they are looked at before that, as the C library allows. This and `terminal.rs` have all `unsafe` of the command.
+//! read. So they are looked at before that, as the C library allows.
 
 use std::ffi::{c_char, c_int};
 use std::sync::atomic::{AtomicBool, Ordering};
@@ -25,14 +25,14 @@ static BEFORE_RUST: extern "C" fn() = look;
 extern "C" fn look() {
     if is_closed(INPUT) {
         // it takes the lowest number that is free, which is this one: a folder, from which a read fails
-        // SAFETY: the path ends in a zero byte
+        // SAFETY: the path ends in a zero byte.
         unsafe { open(c"/".as_ptr(), O_RDONLY) };
     }
     OUTPUT_CLOSED.store(is_closed(OUTPUT), Ordering::Relaxed);
 }
 
 fn is_closed(descriptor: c_int) -> bool {
-    // SAFETY: the request takes a number alone, any will do, and nothing changes
+    // SAFETY: the request takes any number, and changes nothing.
     unsafe { fcntl(descriptor, F_GETFD) == -1 }
 }
 
