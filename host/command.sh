@@ -1,71 +1,69 @@
 # shellcheck shell=bash disable=SC2154
 # For ./plokamyr and ./install: builds the archive and the command where they are missing or older than their sources.
-# The caller sets 'here', the root of the repository, and 'me', which its messages begin with.
+# The caller sets what host/prove.sh asks for.
+# shellcheck source=host/prove.sh
+. "$here/host/prove.sh"
 
 archive=$here/target/staticlib/libcapi.a
-unfinished=$here/target/staticlib.unfinished
-binary=$here/host/target/release/plokamyr
-begun=$here/host/target/command.begun
-built=$here/host/target/command.built
-
-# A closed standard error changes no exit status.
-say() {
-    echo "$me: $1" >&2 || :
-}
-
-fail() {
-    say "$1"
-    exit 3
-}
-
-# Missing, not built to the end, or older than a source, as with ./run.
-archive_stale() {
-    [ ! -f "$archive" ] || [ -e "$unfinished" ] ||
-        [ -n "$(find "$here/crates.txt" "$here"/crates/*/{src,specs,proofs} -newer "$archive" -print -quit)" ]
-}
+binary=$here/host/target/command/plokamyr
+begun=$here/host/target/command/begun
+built=$here/host/target/command/built
 
 # Missing, or older than a source or the archive. By the time at which cargo was last asked: of a newer file it may find that it changes nothing.
-binary_stale() {
+binary_outdated() {
     [ ! -x "$binary" ] || [ ! -e "$built" ] ||
-        [ -n "$(cd "$here/host" && find "$archive" Cargo.toml Cargo.lock cli plokamyr \( -path cli/tests -o -path plokamyr/tests \) -prune -o -newer "$built" -print -quit)" ]
+        [ -n "$(cd "$here/host" && find "$archive" Cargo.toml Cargo.lock cli plokamyr \( -path cli/tests -o -path cli/pages -o -path plokamyr/tests \) -prune -o -newer "$built" -print -quit)" ]
 }
 
-# rt has no stamp for the archive itself, and builds it at each call. It keeps the lock: what it has started may outlive this script.
+is_ready() {
+    ! outdated "$archive" && ! binary_outdated
+}
+
 build_archive() {
-    type -P rt > /dev/null || fail "the library has to be proved and built first, and rt is not on the path"
-    say "proving and building the library first; that takes about five minutes"
-    touch "$unfinished" || fail "nothing can be written in $here/target"
-    (cd "$here" && rt staticlib capi) < /dev/null >&2 || fail "the library could not be proved and built"
-    [ -f "$archive" ] || fail "rt has built no library"
-    # as old as the beginning: an edit since then is not in it
-    { touch -r "$unfinished" "$archive" && rm "$unfinished"; } || fail "nothing can be written in $here/target"
+    build library "$archive" capi staticlib capi
+    echo "$kit" > "$archive.kit" || nothing_written target
 }
 
-# Cargo has a lock of its own; a compiler's server that it starts must not keep this one.
+# The repository's own git, whatever stands around it.
+git_here() {
+    (cd "$here" && git --no-optional-locks --git-dir .git --work-tree . "$@") 2> /dev/null
+}
+
+# What --version tells of a build. Of an archive that someone else has put there the kit is not known.
+description() {
+    local commit proved_by=unknown
+    commit=$(git_here rev-parse --short=12 HEAD) || commit=unknown
+    [ -z "$(git_here status --porcelain -- crates.txt crates host)" ] || commit+=" with changes"
+    if [ -f "$archive.kit" ] && [ ! "$archive.kit" -ot "$archive" ]; then proved_by=$(< "$archive.kit"); fi
+    echo "commit $commit, kit $proved_by"
+}
+
+# Cargo has a lock of its own; a compiler's server that it starts must not keep this one. All that a caller's variable or configuration
+# could say otherwise is said: the archive, the kind of machine, and where the command goes.
 run_cargo() {
     exec {lock}>&-
-    unset PLOKAMYR_LIB
-    cd "$here/host" && cargo build --offline --quiet --release -p cli --target-dir target
+    PLOKAMYR_LIB=$here/target/staticlib PLOKAMYR_BUILD=$(description)
+    export PLOKAMYR_LIB PLOKAMYR_BUILD
+    cargo build --offline --quiet --release -p cli --target "$1" --target-dir target
 }
 
 build_binary() {
+    local machine
     type -P cargo > /dev/null || fail "the command has to be built first, and cargo is not on the path"
-    say "building the command first"
-    { mkdir -p "$here/host/target" && touch "$begun"; } 2> /dev/null || fail "nothing can be written in $here/host/target"
-    (run_cargo) < /dev/null >&2 || fail "the command could not be built"
-    [ -x "$binary" ] || fail "cargo has built no command"
-    mv "$begun" "$built" || fail "nothing can be written in $here/host/target"
+    say "building the command first; that takes about half a minute"
+    { mkdir -p "${binary%/*}" && touch "$begun"; } 2> /dev/null || nothing_written host/target
+    machine=$(cd "$here/host" && cargo -vV < /dev/null | sed -n 's/^host: //p')
+    [ -n "$machine" ] || fail "cargo does not tell for which machine it builds"
+    (cd "$here/host" && run_cargo "$machine") < /dev/null >&2 || fail "the command could not be built"
+    [ -x "$here/host/target/$machine/release/plokamyr" ] || fail "cargo has built no command"
+    { cp "$here/host/target/$machine/release/plokamyr" "$binary.part" && mv "$binary.part" "$binary" && mv "$begun" "$built"; } 2> /dev/null ||
+        nothing_written host/target
 }
 
-# One call builds; others that come meanwhile wait for it. The lock is that of ./run, since rt may not run twice at once.
-ready() {
-    archive_stale || binary_stale || return 0
-    { mkdir -p "$here/target" && exec {lock}> "$here/target/run.lock"; } 2> /dev/null || fail "nothing can be written in $here/target"
-    if ! flock -w 1 "$lock"; then
-        say "waiting for another call, which proves or builds first; that takes up to five minutes"
-        flock "$lock" || fail "$here/target/run.lock cannot be locked"
-    fi
-    ! archive_stale || build_archive
-    ! binary_stale || build_binary
-    exec {lock}>&-
+make_ready() {
+    ! is_ready || return 0
+    take_lock
+    ! outdated "$archive" || build_archive
+    ! binary_outdated || build_binary
+    drop_lock
 }

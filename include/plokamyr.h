@@ -1,5 +1,6 @@
 /* Plokamyr: the predicate part of an Arm SVE interpreter, for C and C++.
- * docs/FORMAT.md has images, words, replies and their order in full.
+ * FORMAT.md has images, words, replies and their order in full: docs/FORMAT.md in the repository, share/doc/plokamyr/FORMAT.md where
+ * this is installed.
  *
  * Every call is answered: nothing is left to the caller to check but what C cannot say. What the caller owes:
  *   - a pointer with a count is valid for that many elements (null will do where the count is 0), and aligned as its type;

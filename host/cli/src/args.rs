@@ -66,7 +66,7 @@ fn value<'a>(
     }
 }
 
-/// The option that a text names, and the value that it has attached: `--vl=512`, `-x1=64`.
+/// The option that a text names, and the value that it has attached: `--vl=512`, `-o=x.image`, `-x1=64`.
 fn find(command: &Command, text: &str) -> Result<(&'static Opt, Option<String>), Failure> {
     if let Some(long) = text.strip_prefix("--") {
         let (name, value) = match long.split_once('=') {
@@ -80,7 +80,7 @@ fn find(command: &Command, text: &str) -> Result<(&'static Opt, Option<String>),
     let value = &text[1 + letter.len()..];
     let known = command.options.iter().find(|option| option.key == letter);
     let option = known.ok_or_else(|| unknown(command, &format!("-{letter}")))?;
-    Ok((option, (!value.is_empty()).then(|| value.to_string())))
+    Ok((option, (!value.is_empty()).then(|| value.strip_prefix('=').unwrap_or(value).to_string())))
 }
 
 fn unknown(command: &Command, text: &str) -> Failure {

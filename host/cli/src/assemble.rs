@@ -1,6 +1,7 @@
 //! From a text to its word.
 
 use crate::disassemble::general;
+use crate::sve::is_elsewhere;
 use crate::syntax::{table, Field, Operand, Syntax, SIZES};
 use crate::words::{listed, natural, plain};
 use plokamyr::{encode, Row};
@@ -11,13 +12,16 @@ use std::fmt;
 pub struct Fault {
     pub at: usize,
     pub found: String,
-    /// Any of these.
+    /// Any of these; none if what is found is an instruction of SVE's that is not executed here.
     pub expected: Vec<String>,
 }
 
 impl fmt::Display for Fault {
     fn fmt(&self, out: &mut fmt::Formatter) -> fmt::Result {
-        write!(out, "expected {}, found {}", listed(&self.expected), self.found)
+        match self.expected.as_slice() {
+            [] => write!(out, "{} is an SVE instruction that is not executed here", self.found),
+            expected => write!(out, "expected {}, found {}", listed(expected), self.found),
+        }
     }
 }
 
@@ -28,18 +32,17 @@ pub fn assemble(text: &str) -> Result<u32, Fault> {
     if mnemonic == DIRECTIVE {
         return number(&tokens);
     }
-    let ways: Vec<&Syntax> = table().iter().filter(|syntax| syntax.mnemonic == mnemonic).collect();
-    if ways.is_empty() {
-        return Err(tokens[0].fault(&suggestion(&mnemonic)));
-    }
     let mut furthest: Option<Fault> = None;
-    for syntax in ways {
+    for syntax in table().iter().filter(|syntax| syntax.mnemonic == mnemonic) {
         match read(syntax, &tokens) {
             Ok(word) => return Ok(word),
             Err(fault) => furthest = Some(further(furthest, fault)),
         }
     }
-    Err(furthest.unwrap_or_else(|| tokens[0].fault("an instruction")))
+    if is_elsewhere(&mnemonic, tokens[1..].iter().map(|token| token.text)) {
+        return Err(Fault { at: tokens[0].at, found: mnemonic, expected: Vec::new() });
+    }
+    Err(furthest.unwrap_or_else(|| tokens[0].fault(&suggestion(&mnemonic))))
 }
 
 /// A word as a number, for one that is no instruction of ours.
@@ -48,7 +51,17 @@ const DIRECTIVE: &str = ".inst";
 /// Whether a text begins with a name that an instruction may begin with.
 pub fn begins_instruction(text: &str) -> bool {
     let first = tokens(text)[0].text.to_ascii_lowercase();
-    first == DIRECTIVE || table().iter().any(|syntax| syntax.mnemonic == first)
+    first == DIRECTIVE || is_ours(&first)
+}
+
+/// Whether it begins with the name of an instruction, be it executed here or not.
+pub fn begins_any(text: &str) -> bool {
+    let first = tokens(text)[0].text.to_ascii_lowercase();
+    begins_instruction(text) || is_elsewhere(&first, std::iter::empty())
+}
+
+fn is_ours(name: &str) -> bool {
+    table().iter().any(|syntax| syntax.mnemonic == name)
 }
 
 /// How many characters of a long name are shown.
@@ -72,7 +85,7 @@ impl Token<'_> {
         let found = match rest.char_indices().nth(SHOWN) {
             _ if self.text.is_empty() => "the end".to_string(),
             _ if rest.is_empty() => "nothing".to_string(),
-            Some((length, _)) => format!("'{}..'", &rest[..length]),
+            Some((length, _)) => format!("'{}..'", plain(&rest[..length])),
             None => format!("'{}'", plain(rest)),
         };
         Fault { at: self.at + skip, found, expected: vec![expected.to_string()] }
@@ -224,7 +237,7 @@ impl<'a> Reader<'a> {
 
     fn general(&mut self, prefix: &str, name: Field) -> Result<(), Fault> {
         let zero = self.token().text.eq_ignore_ascii_case(&format!("{prefix}zr"));
-        let found = if zero { Some((31, 3)) } else { self.register(prefix, 0, 30) };
+        let found = if zero { Some((31, 3)) } else { self.register(prefix, 0, 31) };
         match found.filter(|(_, length)| *length == self.token().text.len()) {
             Some((number, _)) => self.take(name, number, |known| general(prefix, known)),
             None => {
@@ -306,24 +319,65 @@ impl<'a> Reader<'a> {
 /// What to say for a name that no instruction has: one that is written nearly so, if there is one.
 fn suggestion(name: &str) -> String {
     let near = table().iter().map(|syntax| syntax.mnemonic).min_by_key(|known| distance(name, known));
-    match near.filter(|near| distance(name, near) <= 2 && !name.is_empty()) {
+    match near.filter(|near| is_near(name, near)) {
         Some(near) => format!("an instruction ({near}?)"),
         None => "an instruction ('plokamyr asm --help' names them)".to_string(),
     }
 }
 
-/// How many letters have to be put in, left out or changed to get from one name to the other.
+/// Whether a name may well be meant for another. Of short ones many are an instruction of A64 with another letter: these have
+/// their letters in another order alone.
+fn is_near(name: &str, known: &str) -> bool {
+    let sorted = |name: &str| {
+        let mut letters: Vec<char> = name.chars().collect();
+        letters.sort_unstable();
+        letters
+    };
+    let most = match known.len() {
+        0..=4 => usize::from(sorted(name) == sorted(known)),
+        5 | 6 => 1,
+        _ => 2,
+    };
+    distance(name, known) <= most && name.chars().all(|c| c.is_ascii_alphanumeric())
+}
+
+/// How many letters have to be put in, left out, changed or swapped with the next to get from one name to the other.
 fn distance(one: &str, other: &str) -> usize {
-    let other: Vec<char> = other.chars().collect();
-    let mut row: Vec<usize> = (0..=other.len()).collect();
-    for (before, c) in one.chars().take(20).enumerate() {
-        let mut diagonal = before;
-        row[0] = before + 1;
+    let (one, other): (Vec<char>, Vec<char>) = (one.chars().take(20).collect(), other.chars().collect());
+    let mut rows: Vec<Vec<usize>> = vec![(0..=other.len()).collect()];
+    for (before, c) in one.iter().enumerate() {
+        let mut row = vec![before + 1];
         for (place, d) in other.iter().enumerate() {
-            let changed = diagonal + usize::from(c != *d);
-            diagonal = row[place + 1];
-            row[place + 1] = changed.min(row[place] + 1).min(diagonal + 1);
+            let above = &rows[before];
+            let changed = above[place] + usize::from(c != d);
+            let mut least = changed.min(row[place] + 1).min(above[place + 1] + 1);
+            if before > 0 && place > 0 && one[before - 1] == *d && other[place - 1] == *c {
+                least = least.min(rows[before - 1][place - 1] + 1);
+            }
+            row.push(least);
         }
+        rows.push(row);
     }
-    row[other.len()]
+    rows[one.len()][other.len()]
+}
+
+#[cfg(test)]
+mod tests {
+    use super::*;
+
+    #[test]
+    fn hints_are_near() {
+        let hint = |name| suggestion(name).split(['(', '?']).nth(1).unwrap_or("").to_string();
+        let near = [
+            ("wihlelo", "whilelo"),
+            ("whilo", "whilelo"),
+            ("setfr", "setffr"),
+            ("adn", "and"),
+            ("pnxt", "pnext"),
+            ("icnp", "incp"),
+        ];
+        near.iter().for_each(|(name, known)| assert_eq!(hint(name), *known));
+        let far = ["ret", "b", "add", ".text", "b.first", "adds", "csel", "movz", "tst", "loop", "", "ldr"];
+        far.iter().for_each(|name| assert!(hint(name).starts_with("'plokamyr"), "{name}: {}", hint(name)));
+    }
 }

@@ -60,19 +60,37 @@ impl Change {
 pub enum View {
     /// As elements of a size.
     Elements(u32),
-    /// As counters of a group of four vectors or of two, where they are such as WHILE writes.
-    Counters { four: bool },
+    /// As a counter of a group of four vectors or of two; what stood there before it too, if that was one.
+    Counter { four: bool, before: bool },
 }
 
-impl View {
+/// Which P registers hold a counter, as words that were stepped have left them.
+#[derive(Clone, Copy, Debug, Default)]
+pub struct Counters([bool; 16]);
+
+impl Counters {
     /// The view that fits what a word writes.
-    pub fn of_word(word: u32) -> View {
-        match decode(word) {
-            Ok(row) if row.form == Form::WhileCounter => View::Counters { four: field(&row, "vl") == 1 },
-            Ok(row) => View::Elements(field(&row, "size").into()),
-            Err(_) => View::Elements(0),
+    pub fn view(&self, word: u32) -> View {
+        match (decode(word), written_counter(word)) {
+            (Ok(row), Some(number)) => View::Counter { four: field(&row, "vl") == 1, before: self.0[number] },
+            (Ok(row), None) => View::Elements(field(&row, "size").into()),
+            (Err(_), _) => View::Elements(0),
         }
     }
+
+    /// Goes over a word that was done.
+    pub fn step(&mut self, word: u32, before: &State, after: &State) {
+        for (number, holds) in self.0.iter_mut().enumerate() {
+            *holds &= before.p()[number] == after.p()[number];
+        }
+        written_counter(word).into_iter().for_each(|number| self.0[number] = true);
+    }
+}
+
+/// The P register that a word writes as a counter.
+fn written_counter(word: u32) -> Option<usize> {
+    let row = decode(word).ok().filter(|row| row.form == Form::WhileCounter)?;
+    Some(8 + usize::from(field(&row, "PNd")))
 }
 
 /// What differs: settings, X, predicates, FFR, flags.
@@ -83,11 +101,10 @@ pub fn changes(before: &State, after: &State, view: View) -> Vec<Change> {
     for number in 0..31 {
         all.push(numbers(&format!("x{number}"), sides.map(|side| side.x[number])));
     }
-    let vl = sides.map(State::vl);
     for number in 0..16 {
-        all.push(predicate("p", &number.to_string(), sides.map(|side| &side.p()[number]), vl, view));
+        all.push(predicate("p", &number.to_string(), sides.map(|side| (&side.p()[number], side)), view));
     }
-    all.push(predicate("ffr", "", sides.map(|side| &side.ffr), vl, View::Elements(0)));
+    all.push(predicate("ffr", "", sides.map(|side| (&side.ffr, side)), View::Elements(0)));
     all.push(texts("nzcv", sides.map(|side| side.flags), ToString::to_string));
     all.into_iter().flatten().collect()
 }
@@ -100,35 +117,46 @@ fn texts<T: PartialEq>(register: &str, values: [T; 2], shown: impl Fn(&T) -> Str
     (values[0] != values[1]).then(|| Change::new(register, values.map(|value| Value::Text(shown(&value)))))
 }
 
+/// A predicate and the state that it stands in.
+type Held<'a> = (&'a Predicate, &'a State);
+
 /// A predicate register in the view, or in bytes if the view does not show all bits of both values.
-fn predicate(name: &str, number: &str, values: [&Predicate; 2], vl: [u64; 2], view: View) -> Option<Change> {
-    if values[0] == values[1] {
+fn predicate(name: &str, number: &str, values: [Held; 2], view: View) -> Option<Change> {
+    if values[0].0 == values[1].0 {
         return None;
     }
     let size = match view {
-        View::Counters { four } => match counters([0, 1].map(|side| (values[side], vl[side])), four) {
+        View::Counter { four, before } => match counters(values, four, before) {
             Some(shown) => return Some(Change::new(&format!("{name}n{number}"), shown.map(Value::Text))),
             None => 0,
         },
-        View::Elements(size) if values.iter().all(|value| hidden(value, size) == 0) => size,
+        View::Elements(size) if values.iter().all(|(value, _)| hidden(value, size) == 0) => size,
         View::Elements(_) => 0,
     };
-    let shown = [0, 1].map(|side| Value::Text(shown(values[side], vl[side], size)));
+    let shown = values.map(|(value, state)| Value::Text(shown(value, state.vl(), size)));
     Some(Change::new(&format!("{name}{number}.{}", SIZES[size as usize]), shown))
 }
 
-/// Two values as counters, if both are such. What is alike in two vectors differs in four.
-fn counters([one, other]: [(&Predicate, u64); 2], four: bool) -> Option<[String; 2]> {
-    let shown = [as_counter(one, four)?, as_counter(other, four)?];
-    match shown[0] == shown[1] {
-        true => Some([as_counter(one, true)?, as_counter(other, true)?]),
-        false => Some(shown),
+/// Two values, the second as a counter, and the first too if it was one. What is alike in two vectors differs in four.
+fn counters([one, other]: [Held; 2], four: bool, before: bool) -> Option<[String; 2]> {
+    let ways = [four, true].map(|four| {
+        let first = if before { as_counter(one, four)? } else { as_lanes(one) };
+        Some([first, as_counter(other, four)?])
+    });
+    ways.into_iter().flatten().find(|[first, second]| first != second)
+}
+
+fn as_counter((predicate, state): Held, four: bool) -> Option<String> {
+    match *predicate == Predicate::default() {
+        true => Some("none".to_string()),
+        false => counter(predicate, state.vl(), state.level).map(|counter| counter.shown(four)),
     }
 }
 
-fn as_counter((predicate, vl): (&Predicate, u64), four: bool) -> Option<String> {
+/// `.b lanes 0-4,7`, where a counter may stand beside it.
+fn as_lanes((predicate, state): Held) -> String {
     match *predicate == Predicate::default() {
-        true => Some("none".to_string()),
-        false => counter(predicate, vl).map(|counter| counter.shown(four)),
+        true => "none".to_string(),
+        false => format!(".{} lanes {}", SIZES[0], shown(predicate, state.vl(), 0)),
     }
 }

@@ -29,26 +29,26 @@ impl Counter {
     }
 }
 
-/// The counter that a predicate holds: that which a WHILE of as many elements would have written there. None for a predicate
-/// that no WHILE writes, and for an empty one, which is a counter of no size.
-pub fn counter(predicate: &Predicate, vl: u64) -> Option<Counter> {
+/// The counter that a predicate is if it is read as one: that which a WHILE of as many elements would have written there. None
+/// for a predicate that no WHILE writes, for an empty one, which is a counter of no size, and at a level that has no counters.
+pub fn counter(predicate: &Predicate, vl: u64, level: u8) -> Option<Counter> {
     if *predicate == Predicate::default() {
         return None;
     }
     let mut ways = (0..4).flat_map(|size| [true, false].map(|up| (size, up)));
-    ways.find_map(|(size, up)| read(predicate, vl, size, up))
+    ways.find_map(|(size, up)| read(predicate, State::new(vl, level), size, up))
 }
 
-fn read(predicate: &Predicate, vl: u64, size: u32, up: bool) -> Option<Counter> {
+/// Reads a predicate on a state of the library's, which refuses that below the level of counters.
+fn read(predicate: &Predicate, mut state: State, size: u32, up: bool) -> Option<Counter> {
     let letter = SIZES[size as usize];
-    let mut state = State::new(vl, 3);
     state.set_p(8, *predicate);
     step(&mut state, &format!("cntp x0, pn8.{letter}, vlx4"))?;
     step(&mut state, &format!("cntp x1, pn8.{letter}, vlx2"))?;
     let again = if up { "whilelo" } else { "whilehi" };
     let ends = if up { "xzr, x0" } else { "x0, xzr" };
     step(&mut state, &format!("{again} pn9.{letter}, {ends}, vlx4"))?;
-    let elements = elements(vl, size) as u64;
+    let elements = elements(state.vl(), size) as u64;
     let groups = [(state.x[1], 2 * elements), (state.x[0], 4 * elements)];
     (state.p()[9] == *predicate).then_some(Counter { size, up, groups })
 }
@@ -75,7 +75,7 @@ mod tests {
                         let mut state = State::new(vl, 3);
                         state.x[1] = true_elements;
                         step(&mut state, &text).unwrap();
-                        counter(&state.p()[8], vl).unwrap()
+                        counter(&state.p()[8], vl, 3).unwrap()
                     };
                     let up = of(format!("whilelo pn8.{letter}, xzr, x1, vlx4"));
                     assert_eq!((up.size, up.up), (size, true));
@@ -92,15 +92,21 @@ mod tests {
 
     #[test]
     fn no_counter() {
-        assert_eq!(counter(&Predicate::default(), 128), None);
-        assert_eq!(counter(&Predicate::from(0x8000), 128), None); // bit 15 alone has no mark of a size
-        assert_eq!(counter(&Predicate::from(0x0081), 128), None); // at 128 bits a count ends at bit 6
-        assert_eq!(counter(&Predicate::from(0x1_0003), 256), None); // a counter has 16 bits
+        assert_eq!(counter(&Predicate::default(), 128, 3), None);
+        assert_eq!(counter(&Predicate::from(0x8000), 128, 3), None); // bit 15 alone has no mark of a size
+        assert_eq!(counter(&Predicate::from(0x0081), 128, 3), None); // at 128 bits a count ends at bit 6
+        assert_eq!(counter(&Predicate::from(0x1_0003), 256, 3), None); // a counter has 16 bits
+    }
+
+    #[test]
+    fn none_below_the_level_of_counters() {
+        let of = |level| counter(&Predicate::from(0b11_100), 128, level).is_some();
+        assert_eq!([0, 1, 2, 3].map(of), [false, false, false, true]);
     }
 
     #[test]
     fn in_words() {
-        let three = counter(&Predicate::from(0b11_100), 128).unwrap();
+        let three = counter(&Predicate::from(0b11_100), 128, 3).unwrap();
         assert_eq!([three.shown(false), three.shown(true)], [".s 3 of 8 counting up", ".s 3 of 16 counting up"]);
     }
 }

@@ -11,6 +11,11 @@ use plokamyr::{Predicate, State};
 /// The names of the levels.
 const LEVELS: [&str; 4] = ["none", "SVE", "SVE2", "SVE2p1"];
 
+/// A level and its name: `1 (SVE)`.
+pub fn level_named(level: u8) -> String {
+    format!("{level} ({})", LEVELS.get(usize::from(level)).unwrap_or(&"?"))
+}
+
 /// The state in lines: settings, X that are not zero, predicates at a size, counters, FFR, flags.
 pub fn dump(state: &State, size: u32, style: Style) -> String {
     let mut lines = vec![settings(state)];
@@ -22,9 +27,8 @@ pub fn dump(state: &State, size: u32, style: Style) -> String {
 }
 
 fn settings(state: &State) -> String {
-    let level = LEVELS.get(usize::from(state.level)).unwrap_or(&"?");
     let access = if state.access { "on" } else { "off" };
-    format!("vl {}  level {} ({level})  access {access}", state.vl(), state.level)
+    format!("vl {}  level {}  access {access}", state.vl(), level_named(state.level))
 }
 
 fn general(state: &State) -> impl Iterator<Item = String> + '_ {
@@ -65,27 +69,34 @@ fn also(first: usize, last: usize, letter: char) -> String {
     }
 }
 
-/// The counter that a register holds. WHILE writes counters to P8 to P15 alone.
-fn held(state: &State, number: usize) -> Option<Counter> {
-    counter(&state.p()[number], state.vl()).filter(|_| number >= 8)
+/// What a register is as a counter, if WHILE writes such: to P8 to P15 alone. The bits do not tell whether it did.
+fn read_as_counter(state: &State, number: usize) -> Option<Counter> {
+    counter(&state.p()[number], state.vl(), state.level).filter(|_| number >= 8)
 }
 
 fn counter_line(state: &State, number: usize) -> Option<String> {
-    held(state, number).map(|counter| format!("pn{number}{}, {}", counter.shown(false), counter.of_four()))
+    let name = format!("pn{number}");
+    let said = |counter: Counter| format!("{}, {}", counter.shown(false), counter.of_four());
+    read_as_counter(state, number).map(|counter| format!("{name:<6} read as a counter: {}", said(counter)))
 }
 
-/// A predicate's name, its count and its lanes; then lines that go on with these, below them.
+/// A predicate's name, its count and its lanes, in rows with the number of the first lane of each.
 fn register(name: &str, predicate: &Predicate, vl: u64, size: u32, style: Style) -> Vec<String> {
     let (letter, elements) = (SIZES[size as usize], elements(vl, size));
     let width = elements.to_string().len();
     let head = format!("{:<6} {:>width$}/{elements} ", format!("{name}.{letter}"), count(predicate, vl, size));
-    let mut below = picture(predicate, vl, size, style);
+    let mut lines: Vec<String> = Vec::new();
+    for row in picture(predicate, vl, size, style) {
+        let before = if row.first == 0 { head.clone() } else { String::new() };
+        let number = format!("{:>width$}", row.first, width = head.len() + 1 - before.len());
+        lines.push(format!("{before}{} {}", style.dim(&number), row.drawn));
+    }
     let hidden = hidden(predicate, size) as u64;
     if hidden > 0 {
-        below.push(format!("and {} that .{letter} does not read", counted(hidden, "bit")));
+        let blank = " ".repeat(head.len() + 2);
+        lines.push(format!("{blank}and {} that .{letter} does not read", counted(hidden, "bit")));
     }
-    let before = |place| if place == 0 { head.clone() } else { " ".repeat(head.len()) };
-    below.iter().enumerate().map(|(place, line)| before(place) + line).collect()
+    lines
 }
 
 /// The flags, with what a test of a predicate says by them.
@@ -97,8 +108,9 @@ fn flags(state: &State) -> String {
 
 /// The state as JSON. X are decimal digits, predicates hexadecimal ones with the true elements as ranges.
 pub fn json(state: &State, size: u32) -> Json {
-    let p = (0..16)
-        .map(|number| predicate_json(&format!("p{number}"), &state.p()[number], state, size, held(state, number)));
+    let p = (0..16).map(|number| {
+        predicate_json(&format!("p{number}"), &state.p()[number], state, size, read_as_counter(state, number))
+    });
     let flags = state.flags;
     Json::Object(vec![
         ("vl", Json::Number(state.vl() as u32)),

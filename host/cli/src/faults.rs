@@ -5,7 +5,7 @@
 
 use crate::image::MOST;
 use crate::json::Json;
-use crate::words::{numbers, runs};
+use crate::words::{grouped, numbers, runs};
 use plokamyr::{read, write, Reply, State, IMAGE_MAX, WORDS_MAX};
 use std::fmt;
 
@@ -243,11 +243,14 @@ impl Place {
 impl Fault {
     /// As JSON, with fields before its own.
     pub fn json(&self, before: &[(&'static str, Json)]) -> Json {
-        let mut fields = before.to_vec();
-        fields.push(("reply", Json::Number(self.reply.number())));
-        fields.extend(self.place.iter().flat_map(Place::fields));
-        fields.push(("text", Json::text(self)));
-        Json::Object(fields)
+        let reply = ("reply", Json::Number(self.reply.number()));
+        Json::Object([before, &[reply], &self.fields()].concat())
+    }
+
+    /// Where it is, as fields of JSON, and the same as `text`.
+    pub fn fields(&self) -> Vec<(&'static str, Json)> {
+        let place = self.place.iter().flat_map(Place::fields);
+        place.chain([("text", Json::text(self))]).collect()
     }
 }
 
@@ -284,24 +287,25 @@ impl fmt::Display for Place {
     fn fmt(&self, out: &mut fmt::Formatter) -> fmt::Result {
         let Place { section, part, offset, found } = self;
         let part = if part == COUNT { "its count" } else { part };
+        let at = grouped(*offset as u64);
         match found {
             Found::Cut { present, missing, at_least } => {
                 let side = if *present == 0 { "before" } else { "within" };
                 let (least, missing) = (if *at_least { "at least " } else { "" }, bytes_do(*missing, "is", "are"));
-                write!(out, "{section}, the image ends at byte {offset}, {side} {part}: {least}{missing} missing")
+                write!(out, "{section}, the image ends at byte {at}, {side} {part}: {least}{missing} missing")
             }
             Found::NotAllowed { value, bytes, allowed } => {
-                let last = offset + bytes - 1;
+                let last = grouped((offset + bytes - 1) as u64);
                 let verb = if allowed.len() == 1 { "is" } else { "are" };
                 match bytes {
-                    1 => write!(out, "{section}, byte {offset} ({part}) is {value}")?,
-                    _ => write!(out, "{section}, bytes {offset} to {last} ({part}) are {value}")?,
+                    1 => write!(out, "{section}, byte {at} ({part}) is {value}")?,
+                    _ => write!(out, "{section}, bytes {at} to {last} ({part}) are {value}")?,
                 }
                 write!(out, ": allowed {verb} {}", numbers(allowed))
             }
             Found::Trailing { bytes, at_least } => {
                 let (least, follow) = (if *at_least { "at least " } else { "" }, bytes_do(*bytes, "follows", "follow"));
-                write!(out, "{offset} bytes are the image, {least}{follow}: nothing may stand there")
+                write!(out, "{at} bytes are the image, {least}{follow}: nothing may stand there")
             }
         }
     }
@@ -311,7 +315,7 @@ impl fmt::Display for Place {
 fn bytes_do(number: usize, one: &str, more: &str) -> String {
     match number {
         1 => format!("1 byte {one}"),
-        _ => format!("{number} bytes {more}"),
+        _ => format!("{} bytes {more}", grouped(number as u64)),
     }
 }
 

@@ -5,6 +5,7 @@ use crate::commands::{asm, diff, dis, explain, new, run, show, walk};
 use crate::failure::{Failure, Outcome};
 use crate::style::Style;
 use crate::syntax::table;
+use crate::words::folded;
 
 /// What a command prints, given its arguments and whether there is colour.
 type Run = fn(&Args, Style) -> Result<Outcome, Failure>;
@@ -68,7 +69,7 @@ const fn repeated(key: &'static str, value: &'static str, text: &'static str) ->
     Opt { key, value: Some(value), repeats: true, text }
 }
 
-const JSON: Opt = flag("json", "print JSON, with the fields that docs/FORMAT.md has");
+const JSON: Opt = flag("json", "print JSON, with the fields that FORMAT.md has");
 
 pub const COMMANDS: &[Command] = &[
     Command {
@@ -76,9 +77,12 @@ pub const COMMANDS: &[Command] = &[
         operands: "[FILE]",
         summary: "steps the words of an image, a line for each",
         text: "Prints for each word its number, the word, the reply and NZCV, and at the end how many words are done; 'image R' \
-               alone if the image is refused.",
+               if the image is refused.",
         list: None,
-        options: &[flag("trace", "each line also has the instruction and what it changed, before and after"), JSON],
+        options: &[
+            flag("trace", "each line also has the instruction and what it changed, before and after, or why it is refused; of a refused image also where the fault is"),
+            JSON,
+        ],
         example: "run --trace tail.image",
         run: run::command,
     },
@@ -86,9 +90,10 @@ pub const COMMANDS: &[Command] = &[
         name: "show",
         operands: "FILE",
         summary: "shows the register state in an image",
-        text: "Shows the settings, the X that are not zero, each predicate with its count and its lanes, the lowest first, \
-               counters as WHILE writes them, FFR, and the flags: N says that the first active lane is true, Z that none is, C that the \
-               last is not.",
+        text: "Shows the settings, the X that are not zero, each predicate with its count and its lanes, the lowest first, in rows \
+               with the number of the first lane of each, FFR, and the flags: N says that the first active lane is true, Z that none is, \
+               C that the last is not. At level 3 also what P8 to P15 are if they are read as counters: the bits do not tell a mask \
+               from a counter. A row has 64 lanes, or 32 where there are fewer than 88 columns.",
         list: None,
         options: &[
             option("after", "N", "the state after N words have been stepped; it stops before one that is refused, with status 1"),
@@ -102,8 +107,8 @@ pub const COMMANDS: &[Command] = &[
         name: "dis",
         operands: "WORD.. | FILE",
         summary: "shows words as instructions",
-        text: "A WORD has up to eight hexadecimal digits, with or without 0x; one operand that is none names an image (./NAME for \
-               a name of hexadecimal digits). Prints each word with its instruction, as LLVM \
+        text: "A WORD has up to eight hexadecimal digits, with or without 0x; one operand that is none names an image, or a list of \
+               words of eight hexadecimal digits as asm prints it (./NAME for a name of hexadecimal digits). Prints each word with its instruction, as LLVM \
                writes it, and the level that it asks: 1 SVE, 2 SVE2, 3 SVE2p1. A word that is none of ours is foreign if its bits 31:24 are not \
                00100101, else undefined here.",
         list: None,
@@ -125,10 +130,11 @@ pub const COMMANDS: &[Command] = &[
     },
     Command {
         name: "new",
-        operands: "-o FILE --vl BITS [KERNEL.s]",
+        operands: "-o FILE --vl BITS [KERNEL]",
         summary: "makes an image",
-        text: "Writes an image with the words of KERNEL.s, or with none. What is not given is zero, except that the level is 3 and \
-               access is on.",
+        text: "Writes an image with the words of KERNEL, or with none: KERNEL has instructions, as asm reads them, or a list of words, \
+               as asm prints it. What is not given is zero, except that the level is 3 and access is on. FILE is written whole or stays as \
+               it was.",
         list: None,
         options: &[
             option("o", "FILE", "the image to write; - for standard output"),
@@ -145,9 +151,10 @@ pub const COMMANDS: &[Command] = &[
     },
     Command {
         name: "explain",
-        operands: "NUMBER | FILE",
+        operands: "REPLY | FILE",
         summary: "says what a reply means, or where an image is at fault",
-        text: "For a NUMBER the reply in words. For an image that is refused the section, the byte, its value and what is allowed there; \
+        text: "For a REPLY what it means, by its number, as 14 or 0xe, or by its name, as PLOKAMYR_NOT_MONOTONIC or NotMonotonic \
+               (./NAME for a file of such a name). For an image that is refused the section, the byte, its value and what is allowed there; \
                for one that is not, the word that is refused, if there is one, and why.",
         list: None,
         options: &[JSON],
@@ -170,11 +177,12 @@ pub const COMMANDS: &[Command] = &[
         operands: "FILE -n N -m M -d D -k K",
         summary: "walks the positions from Xn up to Xm, on the state in an image",
         text: "PFALSE Pk; then WHILELO Pd from Xn to Xm, PNEXT Pk through Pd, INCP Xn by Pd, repeated until no lane is left. \
-               Prints the reply, how many instructions were executed, the positions visited and the state after.",
+               Prints the reply, how many instructions were executed, the positions visited and the state after; of a walk that is refused \
+               and leaves all as it was, the reply and why.",
         list: None,
         options: &[
             option("n", "N", "the X register with the first position"),
-            option("m", "M", "the X register with the limit; 31 stands for zero"),
+            option("m", "M", "the X register with the limit; 31 or xzr stands for zero"),
             option("d", "D", "the P register that WHILELO writes"),
             option("k", "K", "the P register that PNEXT writes"),
             option("size", "b|h|s|d", "the size of elements: bytes if it is not given"),
@@ -188,6 +196,18 @@ pub const COMMANDS: &[Command] = &[
 
 pub const VERSION: &str = concat!("plokamyr ", env!("CARGO_PKG_VERSION"));
 
+/// When the texts here were last changed, for the manual page.
+pub const DATE: &str = "2026-11-18";
+
+/// The commit and the kit that the library and the command are built from, as host/command.sh tells them.
+pub const BUILD: &str = match option_env!("PLOKAMYR_BUILD") {
+    Some(build) => build,
+    None => "built by cargo alone",
+};
+
+pub const FORMAT: &str = "FORMAT.md has images, words, replies and JSON in full: docs/FORMAT.md in the repository, \
+                          share/doc/plokamyr/FORMAT.md below the folder that the command is installed in.";
+
 pub const ABOUT: &str = "Runs, shows, makes and compares images of Plokamyr, the predicate part of an Arm SVE interpreter, and turns words into \
                          instructions and back. An image is a file with a register state and instruction words. What an \
                          instruction does comes from the proved library.";
@@ -200,22 +220,31 @@ pub const STATUS: [(&str, &str); 5] = [
     ("141", "the reader of standard output has gone away; nothing is said"),
 ];
 
+pub const ENVIRONMENT: [(&str, &str); 2] = [
+    ("COLUMNS", "How many columns lines have, in place of what the terminal says. Below 88 a row has 32 lanes."),
+    ("NO_COLOR", "If it is set and not empty, there is no colour on a terminal either."),
+];
+
 /// The page of all commands.
-pub fn overview() -> String {
-    let mut page = format!("usage: plokamyr COMMAND ..\n\n{}\n\n", folded(ABOUT, 0));
+pub fn overview(style: Style) -> String {
+    let folded = |text| folded(text, 0, style.prose());
+    let mut page = format!("usage: plokamyr COMMAND ..\n\n{}\n\n", folded(ABOUT));
     for command in COMMANDS {
         page += &format!("  {:<8} {}\n", command.name, command.summary);
     }
-    page += "\nplokamyr COMMAND --help has more of each, plokamyr --man the manual page; there is --version too.\n";
-    page += "A FILE may be - for standard input.\n\nExit status:\n";
+    page += &format!("\n{}\n", folded(MORE));
+    page += &format!("A FILE may be - for standard input.\n\n{}\n\nExit status:\n", folded(FORMAT));
     for (status, meaning) in STATUS {
         page += &format!("  {status:<3}  {meaning}\n");
     }
     page
 }
 
+const MORE: &str = "plokamyr COMMAND --help has more of each, plokamyr --man the manual page; there is --version too.";
+
 /// The page of one command.
-pub fn page(command: &Command) -> String {
+pub fn page(command: &Command, style: Style) -> String {
+    let folded = |text: &str, indent| folded(text, indent, style.prose());
     let mut page = format!("usage: {}\n\n{}\n", command.usage(), folded(command.text, 0));
     let width = command.options.iter().map(|option| option.usage().len()).max().unwrap_or(0);
     for (place, option) in command.options.iter().enumerate() {
@@ -234,20 +263,4 @@ fn instructions() -> String {
     names.sort_unstable();
     names.dedup();
     format!("Instructions: {}.", names.join(", "))
-}
-
-/// A text in lines of at most 100 characters, those after the first set in.
-fn folded(text: &str, indent: usize) -> String {
-    let (mut lines, mut line) = (Vec::new(), String::new());
-    for word in text.split_whitespace() {
-        if !line.is_empty() && indent + line.len() + 1 + word.len() > 100 {
-            lines.push(std::mem::take(&mut line));
-        }
-        if !line.is_empty() {
-            line.push(' ');
-        }
-        line += word;
-    }
-    lines.push(line);
-    lines.join(&format!("\n{}", " ".repeat(indent)))
 }

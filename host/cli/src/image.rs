@@ -44,11 +44,21 @@ pub fn named(path: &str) -> String {
     }
 }
 
+/// The text of some bytes, without a byte order mark. Bytes that are no UTF-8 are told by a character that nothing has.
+pub fn text(bytes: &[u8]) -> String {
+    let text = String::from_utf8_lossy(bytes);
+    text.strip_prefix('\u{feff}').unwrap_or(&text).to_string()
+}
+
 /// Reads an image; a refusal is told with its place.
 pub fn load(path: &str) -> Result<Image, Failure> {
-    let bytes = bytes(path)?;
-    image(&bytes).map_err(|reply| {
-        let fault = fault(&bytes);
+    accepted(path, &bytes(path)?)
+}
+
+/// The image of a file's bytes.
+pub fn accepted(path: &str, bytes: &[u8]) -> Result<Image, Failure> {
+    image(bytes).map_err(|reply| {
+        let fault = fault(bytes);
         let place = fault.as_ref().map_or(reply.to_string(), ToString::to_string);
         let json = fault.map(|fault| fault.json(&[("file", Json::text(path))]));
         Failure { status: IMAGE_REFUSED, json, ..format!("{} is refused: {place}", named(path)).into() }

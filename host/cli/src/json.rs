@@ -1,5 +1,6 @@
 //! JSON, as far as it is written here.
 
+use crate::words::is_invisible;
 use std::fmt;
 use std::ops::RangeInclusive;
 
@@ -59,7 +60,9 @@ fn quoted(out: &mut fmt::Formatter, text: &str) -> fmt::Result {
     for c in text.chars() {
         match c {
             '"' | '\\' => write!(out, "\\{c}")?,
-            c if c.is_control() => write!(out, "\\u{:04x}", u32::from(c))?,
+            c if is_invisible(c) => {
+                c.encode_utf16(&mut [0; 2]).iter().try_for_each(|unit| write!(out, "\\u{unit:04x}"))?
+            }
             c => write!(out, "{c}")?,
         }
     }
@@ -72,7 +75,10 @@ mod tests {
 
     #[test]
     fn values() {
-        let value = Json::Object(vec![("a", Json::list([Json::Number(1), Json::Null])), ("b", Json::text("\"\\\n█"))]);
-        assert_eq!(value.to_string(), r#"{"a": [1, null], "b": "\"\\\u000a█"}"#);
+        let value = Json::Object(vec![
+            ("a", Json::list([Json::Number(1), Json::Null])),
+            ("b", Json::text("\"\\\n█\u{202e}\u{e0001}")),
+        ]);
+        assert_eq!(value.to_string(), r#"{"a": [1, null], "b": "\"\\\u000a█\u202e\udb40\udc01"}"#);
     }
 }

@@ -16,10 +16,15 @@ mod help;
 mod image;
 mod json;
 mod lanes;
+mod list;
 mod manual;
+mod reason;
+mod save;
 mod source;
 mod style;
+mod sve;
 mod syntax;
+mod terminal;
 mod words;
 
 pub use assemble::{assemble, Fault};
@@ -35,17 +40,17 @@ pub fn answer(given: &[String], style: Style) -> Result<Outcome, Failure> {
         [name, rest @ ..] => (name.as_str(), rest),
     };
     match name {
-        "-h" | "--help" => return done(help::overview()),
-        "help" if rest.is_empty() => return done(help::overview()),
+        "-h" | "--help" => return done(help::overview(style)),
+        "help" if rest.is_empty() => return done(help::overview(style)),
         "help" => return answer(&[&rest[..1], &["--help".to_string()]].concat(), style),
-        "-V" | "--version" => return done(format!("{}\n", help::VERSION)),
+        "-V" | "--version" => return done(format!("{} ({})\n", help::VERSION, help::BUILD)),
         "--man" => return done(manual::manual()),
         _ => {}
     }
     let command = help::COMMANDS.iter().find(|command| command.name == name);
     let command = command.ok_or_else(|| unknown(name))?;
     if rest.iter().take_while(|text| *text != "--").any(|text| text == "-h" || text == "--help") {
-        return done(help::page(command));
+        return done(help::page(command, style));
     }
     let named = |failure: Failure| Failure { text: format!("{name}: {}", failure.text), ..failure };
     let args = args::parse(command, rest).map_err(named)?;

@@ -1,5 +1,7 @@
 //! Writes the answer to standard output, or why there is none to standard error.
 
+mod descriptors;
+
 use cli::{answer, why, Failure, Outcome, Style};
 use std::env::args_os;
 use std::ffi::OsString;
@@ -10,11 +12,18 @@ use std::process::ExitCode;
 const READER_GONE: u8 = 141;
 
 fn main() -> ExitCode {
-    let status = match given().and_then(|given| answer(&given, Style::of(&io::stdout()))) {
+    let status = match outcome() {
         Ok(outcome) => deliver(&outcome),
         Err(failure) => say(&failure),
     };
     ExitCode::from(status)
+}
+
+fn outcome() -> Result<Outcome, Failure> {
+    if descriptors::output_was_closed() {
+        return Err("standard output is closed".into());
+    }
+    answer(&given()?, Style::of(&io::stdout()))
 }
 
 fn given() -> Result<Vec<String>, Failure> {

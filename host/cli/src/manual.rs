@@ -1,11 +1,11 @@
 //! The manual page, for man(1), from the table of the commands.
 
-use crate::help::{Command, ABOUT, COMMANDS, STATUS, VERSION};
+use crate::help::{Command, ABOUT, COMMANDS, DATE, ENVIRONMENT, FORMAT, STATUS, VERSION};
 
 /// The page in roff.
 pub fn manual() -> String {
     let mut page = format!(
-        ".TH PLOKAMYR 1 \"\" \"{VERSION}\"\n.SH NAME\nplokamyr \\- images, words and states of SVE predicates\n"
+        ".TH PLOKAMYR 1 {DATE} \"{VERSION}\"\n.SH NAME\nplokamyr \\- images, words and states of SVE predicates\n"
     );
     page += ".SH SYNOPSIS\n.B plokamyr\n.I COMMAND\n\\&..\n.br\n.B plokamyr \\-\\-help\n|\n.B \\-\\-version\n|\n.B \\-\\-man\n";
     page += &format!(".SH DESCRIPTION\n{}\n.I FILE\nmay be \\- for standard input.\n.SH COMMANDS\n", roff(ABOUT));
@@ -14,7 +14,11 @@ pub fn manual() -> String {
     for (status, meaning) in STATUS {
         page += &format!(".TP\n{status}\n{}\n", roff(meaning));
     }
-    page + ".SH ENVIRONMENT\n.TP\nNO_COLOR\nIf it is set and not empty, there is no colour on a terminal either.\n"
+    page += ".SH ENVIRONMENT\n";
+    for (name, meaning) in ENVIRONMENT {
+        page += &format!(".TP\n{name}\n{}\n", roff(meaning));
+    }
+    page + &format!(".SH FILES\n{}\n", roff(FORMAT))
 }
 
 fn section(command: &Command) -> String {

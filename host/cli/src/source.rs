@@ -2,6 +2,7 @@
 
 use crate::assemble::{assemble, Fault};
 use crate::style::Style;
+use crate::words::{is_invisible, plain};
 
 /// A line that is at fault, and where.
 #[derive(Clone, Debug, PartialEq, Eq)]
@@ -117,10 +118,11 @@ impl Problem {
     fn report(&self, name: &str, style: Style) -> String {
         let column = self.text[..self.fault.at].chars().count();
         let left_out = if column < SHOWN - 1 { 0 } else { column - BEFORE };
-        let shown = self.text.chars().skip(left_out).take(SHOWN).map(|c| if c.is_control() { ' ' } else { c });
+        let shown = self.text.chars().skip(left_out).take(SHOWN).map(|c| if is_invisible(c) { ' ' } else { c });
         let mark = format!("{}{}", " ".repeat(column - left_out), style.green("^"));
         let line: String = shown.collect();
-        format!("{name}:{}:{}: {}\n    {}\n    {mark}", self.line, column + 1, self.fault, line.trim_end())
+        let place = format!("{}:{}:{}", plain(name), self.line, column + 1);
+        format!("{place}: {}\n    {}\n    {mark}", self.fault, line.trim_end())
     }
 }
 

@@ -12,9 +12,35 @@ pub fn listed<T: AsRef<str>>(items: &[T]) -> String {
     }
 }
 
-/// A text without control characters.
+/// A text with its invisible characters escaped: one of control or of format, as one that turns the direction of what follows,
+/// a line separator, a byte order mark, one that nobody has assigned.
 pub fn plain(text: &str) -> String {
-    text.chars().flat_map(|c| if c.is_control() { c.escape_default().collect() } else { vec![c] }).collect()
+    let shown = |c: char| match is_invisible(c) {
+        true => c.escape_default().collect(),
+        false => vec![c],
+    };
+    text.chars().flat_map(shown).collect()
+}
+
+/// Whether Rust escapes a character in a text, after a letter: an accent of its own is then none.
+pub fn is_invisible(c: char) -> bool {
+    !matches!(c, ' '..='~') && format!("e{c}").escape_debug().count() > 2
+}
+
+/// A text in lines of at most `width` characters, those after the first set in.
+pub fn folded(text: &str, indent: usize, width: usize) -> String {
+    let (mut lines, mut line) = (Vec::new(), String::new());
+    for word in text.split_whitespace() {
+        if !line.is_empty() && indent + line.chars().count() + 1 + word.chars().count() > width {
+            lines.push(std::mem::take(&mut line));
+        }
+        if !line.is_empty() {
+            line.push(' ');
+        }
+        line += word;
+    }
+    lines.push(line);
+    lines.join(&format!("\n{}", " ".repeat(indent)))
 }
 
 /// Ascending numbers as the runs that they make up.
@@ -95,6 +121,19 @@ mod tests {
     #[test]
     fn lists() {
         assert_eq!([listed(&["a"]), listed(&["a", "b"]), listed(&["a", "b", "c"])], ["a", "a or b", "a, b or c"]);
+    }
+
+    #[test]
+    fn invisible_characters() {
+        let text = "é e\u{301} '\"\\ █\u{202e}\u{feff}\u{200b}\u{2028}\u{1b}\u{e0001}\n";
+        assert_eq!(plain(text), "é e\u{301} '\"\\ █\\u{202e}\\u{feff}\\u{200b}\\u{2028}\\u{1b}\\u{e0001}\\n");
+    }
+
+    #[test]
+    fn lines_break_between_words() {
+        assert_eq!(folded("one two  three", 0, 7), "one two\nthree");
+        assert_eq!(folded("one two three", 2, 7), "one\n  two\n  three");
+        assert_eq!(folded("longer than that", 0, 3), "longer\nthan\nthat");
     }
 
     #[test]

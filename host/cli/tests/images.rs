@@ -5,7 +5,7 @@ mod common;
 
 use cli::{answer, Style};
 use common::Random;
-use plokamyr::{text, write, Flags, Predicate, Reply, State, IMAGE_MAX};
+use plokamyr::{text, write, Flags, Form, Predicate, Reply, State, IMAGE_MAX};
 use std::env::temp_dir;
 use std::{fs, process};
 
@@ -66,10 +66,14 @@ fn image(state: &State, words: &[u32]) -> Vec<u8> {
 
 /// The command's answer to words of which `FILE` stands for a file with these bytes: text and status.
 fn asked(words: &str, bytes: &[u8]) -> (String, u8) {
+    asked_in(words, bytes, Style::PLAIN)
+}
+
+fn asked_in(words: &str, bytes: &[u8], style: Style) -> (String, u8) {
     let path = temp_dir().join(format!("plokamyr-{}-{:?}", process::id(), std::thread::current().id()));
     fs::write(&path, bytes).unwrap();
     let given: Vec<String> = words.split(' ').map(|word| word.replace("FILE", path.to_str().unwrap())).collect();
-    let answer = answer(&given, Style::PLAIN);
+    let answer = answer(&given, style);
     fs::remove_file(&path).unwrap();
     match answer {
         Ok(outcome) => (String::from_utf8(outcome.text).unwrap(), outcome.status),
@@ -118,6 +122,62 @@ fn states_are_shown_as_the_library_counts_them() {
     }
 }
 
+/// Lines with lanes are no wider than the columns, down to those that 32 lanes take.
+#[test]
+fn pictures_fit() {
+    let mut random = Random(5);
+    for _ in 0..50 {
+        let bytes = image(&state(&mut random), &[]);
+        for letter in ['b', 'h', 's', 'd'] {
+            for columns in [52, 80, 87, 88, 120] {
+                let style = Style { columns: Some(columns), ..Style::PLAIN };
+                let (shown, _) = asked_in(&format!("show FILE --size {letter}"), &bytes, style);
+                let wide =
+                    shown.lines().filter(|line| line.contains(['█', '░'])).map(|line| line.chars().count()).max();
+                let lanes = |line: &str| line.chars().filter(|c| "█░".contains(*c)).count();
+                let most = shown.lines().map(lanes).max();
+                // an empty register is drawn short, with the names of those that are alike behind it
+                assert!(
+                    wide <= Some(columns) && most <= Some(if columns < 88 { 32 } else { 64 }),
+                    "{columns}\n{shown}"
+                );
+            }
+        }
+    }
+}
+
+/// A run of equal lanes has one code, however long it is.
+#[test]
+fn colour_is_written_once_for_a_run() {
+    let mut random = Random(6);
+    for _ in 0..50 {
+        let style = Style { colour: true, columns: None };
+        let (shown, _) = asked_in("show FILE", &image(&state(&mut random), &[]), style);
+        for (lane, code) in [('█', "\x1b[32m"), ('░', "\x1b[2m")] {
+            let again = ["", " "].map(|blank| format!("{lane}\x1b[0m{code}{blank}{lane}"));
+            assert!(
+                shown.contains(&format!("{code}{lane}")) && again.iter().all(|again| !shown.contains(again)),
+                "{shown}"
+            );
+        }
+    }
+}
+
+/// Masks from lane 0 on, which look as counters do, at every level and length.
+#[test]
+fn masks_are_no_counters_below_level_3() {
+    for (vl, level) in [128, 256, 512, 1024, 2048].iter().flat_map(|vl| [0, 1, 2, 3].map(|level| (*vl, level))) {
+        let mut state = State::new(vl, level);
+        (8..16).for_each(|number| state.set_p(number, Predicate::from((1 << (number - 6)) - 1)));
+        let bytes = image(&state, &[]);
+        let (shown, json) = (asked("show FILE", &bytes).0, asked("show FILE --json", &bytes).0);
+        assert!(!shown.contains("\npn8.") && !shown.contains("pn7"), "{shown}");
+        let said = shown.matches("read as a counter: .b ").count();
+        assert_eq!(said > 0, level == 3, "{vl} {level}: {shown}");
+        assert_eq!(json.matches("\"counter\"").count(), said);
+    }
+}
+
 #[test]
 fn runs_print_what_the_library_does() {
     let mut random = Random(2);
@@ -158,7 +218,7 @@ fn counting(random: &mut Random) -> u32 {
 #[test]
 fn a_trace_names_the_registers_that_change() {
     let mut random = Random(4);
-    let mut named = 0;
+    let (mut named, mut counters) = (0, 0);
     for _ in 0..2_000 {
         let mut state = state(&mut random);
         (state.level, state.access) = (3, true);
@@ -178,8 +238,16 @@ fn a_trace_names_the_registers_that_change() {
             before != after.split('}').next().unwrap()
         }));
         named += registers.len();
+        // what a WHILE has written as a counter is shown as one, whatever stood there before
+        if plokamyr::decode(word).is_ok_and(|row| row.form == Form::WhileCounter) {
+            let change = json.split("\"register\": \"p").nth(1).filter(|rest| !rest.starts_with("n"));
+            assert_eq!(change, None, "{word:08x} {json}");
+            let after = json.split("\"register\": \"pn").nth(1).and_then(|rest| rest.split("\"after\": \"").nth(1));
+            assert!(after.map_or(true, |after| after.starts_with("none\"") || after.contains(" counting ")), "{json}");
+            counters += usize::from(after.is_some());
+        }
     }
-    assert!(named > 2_000, "{named}");
+    assert!(named > 2_000 && counters > 500, "{named} {counters}");
 }
 
 #[test]

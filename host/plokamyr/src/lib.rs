@@ -12,8 +12,9 @@
 //! plokamyr::text_in(&buffer, &mut buffer);
 //! ```
 //!
-//! The library itself is an archive; `rt staticlib capi` makes it. `PLOKAMYR_LIB` names its folder in full if that
-//! is not `target/staticlib` of the repository.
+//! The library itself is an archive; `rt staticlib capi` makes it. `PLOKAMYR_LIB` names its folder if that is not
+//! `target/staticlib` of the repository: one with `libcapi.a`, or with `libplokamyr.a`, as `./install PREFIX` fills
+//! `PREFIX/lib`. A relative path begins where cargo is called; it is looked up, and this crate compiled, at each build.
 
 #![deny(unsafe_code)]
 #![warn(missing_debug_implementations)]

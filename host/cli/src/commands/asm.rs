@@ -1,7 +1,7 @@
 use crate::args::Args;
-use crate::assemble::begins_instruction;
+use crate::assemble::{begins_any, begins_instruction};
 use crate::failure::{Failure, Outcome, DONE, FAILED};
-use crate::image::{contents, named};
+use crate::image::{contents, named, text};
 use crate::source::{report, words};
 use crate::style::Style;
 use crate::words::grouped;
@@ -34,13 +34,13 @@ fn is_file(text: &str) -> bool {
 /// More than any source needs: all words that there are, with their texts, take less.
 const MOST: usize = 1 << 28;
 
-/// A file's text. Bytes that are no UTF-8 are no instruction either, and are refused in their place.
+/// A file's text. Bytes that are no UTF-8 are no instruction, and are refused in their place.
 pub fn source(path: &str) -> Result<String, Failure> {
     let bytes = contents(path, MOST)?;
     if bytes.len() == MOST {
         return Err(format!("{} has {} bytes or more", named(path), grouped(MOST as u64)).into());
     }
-    Ok(String::from_utf8_lossy(&bytes).into_owned())
+    Ok(text(&bytes))
 }
 
 /// The words of arguments. Each that begins an instruction has one.
@@ -59,7 +59,7 @@ fn of_texts(texts: &[String]) -> Result<Vec<u32>, Failure> {
 fn joined(texts: &[String]) -> Vec<String> {
     let mut lines: Vec<String> = Vec::new();
     for text in texts {
-        let goes_on = !text.is_empty() && !text.contains(char::is_whitespace) && !begins_instruction(text);
+        let goes_on = !text.is_empty() && !text.contains(char::is_whitespace) && !begins_any(text);
         match lines.last_mut() {
             Some(line) if goes_on => *line += &format!(" {text}"),
             _ => lines.push(text.clone()),

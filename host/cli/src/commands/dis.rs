@@ -2,9 +2,11 @@ use crate::args::Args;
 use crate::commands::explain::said;
 use crate::disassemble::{disassemble, level, Aliases};
 use crate::failure::{Failure, Outcome, DONE, REFUSED};
-use crate::image::load;
+use crate::image::{accepted, bytes, named, text as text_of, MOST};
 use crate::json::Json;
+use crate::list::{self, word};
 use crate::style::Style;
+use crate::words::counted;
 use plokamyr::Reply;
 use std::path::Path;
 
@@ -19,23 +21,32 @@ pub fn command(args: &Args, style: Style) -> Result<Outcome, Failure> {
 
 const WORD: &str = "word of up to eight hexadecimal digits";
 
+/// The words of an image, or of a text that lists them.
+fn of_file(path: &str) -> Result<Vec<u32>, Failure> {
+    let bytes = bytes(path)?;
+    if !list::is_text(&bytes) {
+        return Ok(accepted(path, &bytes)?.words);
+    }
+    if bytes.len() == MOST {
+        return Err(format!("{} is a text of {} or more", named(path), counted(MOST as u64, "byte")).into());
+    }
+    let text = text_of(&bytes);
+    if !list::is_list(&text) {
+        return Err(format!("{} is a text, and no list of words of eight hexadecimal digits", named(path)).into());
+    }
+    list::words(&named(path), &text)
+}
+
 fn words(args: &Args) -> Result<Vec<u32>, Failure> {
     match args.operands.as_slice() {
         [] => Err("WORD or FILE is missing (try --help)".into()),
-        [path] if word(path).is_none() && (path == "-" || Path::new(path).exists()) => Ok(load(path)?.words),
+        [path] if word(path).is_none() && (path == "-" || Path::new(path).exists()) => of_file(path),
         [text] => Ok(vec![word(text).ok_or_else(|| format!("'{text}' is no file, and no {WORD}"))?]),
         texts => {
             let no_word = |text| format!("several operands are words, and '{text}' is no {WORD}").into();
             texts.iter().map(|text| word(text).ok_or_else(|| no_word(text))).collect()
         }
     }
-}
-
-/// A word of up to eight hexadecimal digits, with or without 0x.
-fn word(text: &str) -> Option<u32> {
-    let digits = text.strip_prefix("0x").or_else(|| text.strip_prefix("0X")).unwrap_or(text);
-    let plain = digits.len() <= 8 && digits.chars().all(|digit| digit.is_ascii_hexdigit());
-    u32::from_str_radix(digits, 16).ok().filter(|_| plain)
 }
 
 fn lines(words: &[u32], aliases: Aliases, style: Style) -> String {

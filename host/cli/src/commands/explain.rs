@@ -5,27 +5,45 @@ use crate::failure::{Failure, Outcome, DONE, IMAGE_REFUSED, REFUSED};
 use crate::faults::{fault, Fault};
 use crate::image::{bytes, image, Image};
 use crate::json::Json;
+use crate::reason::{reason, told};
 use crate::style::Style;
-use crate::words::counted;
+use crate::words::{counted, folded, grouped, natural};
 use plokamyr::Reply;
 
-pub fn command(args: &Args, _: Style) -> Result<Outcome, Failure> {
-    let operand = super::only(args, "NUMBER or FILE")?;
-    let (text, json, status) = match operand.chars().all(|c| c.is_ascii_digit()) && !operand.is_empty() {
-        true => of_number(operand)?,
+pub fn command(args: &Args, style: Style) -> Result<Outcome, Failure> {
+    let operand = super::only(args, "REPLY or FILE")?;
+    let (text, json, status) = match names_reply(operand) {
+        true => of_reply(reply(operand).ok_or_else(|| no_reply(operand))?),
         false => of_image(&bytes(operand)?),
     };
-    Ok(Outcome::either(args, status, || json, || text))
+    let folded = || text.lines().map(|line| folded(line, 0, style.prose()) + "\n").collect();
+    Ok(Outcome::either(args, status, || json, folded))
 }
 
 /// An explanation for people, the same as JSON, and the exit status.
 type Explanation = (String, Json, u8);
 
-fn of_number(text: &str) -> Result<Explanation, Failure> {
-    let reply = text.parse().map_or(Reply::Other(u32::MAX), Reply::from_number);
-    if let Reply::Other(_) = reply {
-        return Err(format!("there is no reply {text}: 0 to {} would do", Reply::ALL.len() - 1).into());
-    }
+/// The reply of a number, or of a name in C or in Rust.
+fn reply(text: &str) -> Option<Reply> {
+    let number = natural(text);
+    let named = |reply: &&Reply| {
+        number == Some(reply.number().into()) || text == c_name(**reply) || text == format!("{:?}", **reply)
+    };
+    Reply::ALL.iter().find(named).copied()
+}
+
+/// Whether a text can only stand for a reply, be it one or not: a number, or what begins as the names in C do.
+fn names_reply(text: &str) -> bool {
+    let digits = !text.is_empty() && text.chars().all(|c| c.is_ascii_digit());
+    digits || natural(text).is_some() || text.starts_with(PREFIX) || reply(text).is_some()
+}
+
+fn no_reply(text: &str) -> Failure {
+    let last = Reply::ALL.len() - 1;
+    format!("there is no reply {text}: 0 to {last}, or a name as {} would do", c_name(Reply::ALL[last])).into()
+}
+
+fn of_reply(reply: Reply) -> Explanation {
     let (number, name, advice) = (reply.number(), c_name(reply), advice(reply));
     let json = vec![
         ("reply", Json::Number(number)),
@@ -33,7 +51,7 @@ fn of_number(text: &str) -> Result<Explanation, Failure> {
         ("meaning", Json::text(said(reply))),
         ("advice", Json::text(advice)),
     ];
-    Ok((format!("{number} {name}: {}\n{advice}\n", said(reply)), Json::Object(json), DONE))
+    (format!("{number} {name}: {}\n{advice}\n", said(reply)), Json::Object(json), DONE)
 }
 
 /// A reply in words, without its number.
@@ -44,15 +62,17 @@ pub fn said(reply: Reply) -> String {
 
 /// The name in the C header: `PLOKAMYR_FOREIGN_WORD` for `ForeignWord`.
 fn c_name(reply: Reply) -> String {
-    let mut name = "PLOKAMYR".to_string();
-    for c in format!("{reply:?}").chars() {
-        if c.is_uppercase() {
+    let mut name = PREFIX.to_string();
+    for (place, c) in format!("{reply:?}").chars().enumerate() {
+        if c.is_uppercase() && place > 0 {
             name.push('_');
         }
         name.extend(c.to_uppercase());
     }
     name
 }
+
+const PREFIX: &str = "PLOKAMYR_";
 
 fn of_image(bytes: &[u8]) -> Explanation {
     match (image(bytes), fault(bytes)) {
@@ -87,6 +107,10 @@ fn of_words(image: &Image, length: usize) -> Explanation {
     let (number, text) = (ran.done, dis::text(word));
     fields.push(("offset", Json::Number(offset as u32)));
     fields.push(("word", Json::text(format!("{word:08x}"))));
-    let line = format!("word {number}, bytes {offset} to {}, is {word:08x}  {text}", offset + 3);
-    (format!("{accepted}\n{line}\nrefused: {}\n{}\n", ran.refused, advice(ran.refused)), Json::Object(fields), REFUSED)
+    let reason = reason(&state, word, ran.refused);
+    fields.extend(reason.iter().map(|reason| ("reason", Json::text(reason))));
+    let [first, last] = [offset, offset + 3].map(|byte| grouped(byte as u64));
+    let line = format!("word {number}, bytes {first} to {last}, is {word:08x}: {text}");
+    let refused = format!("refused: {}", told(ran.refused, reason.as_deref()));
+    (format!("{accepted}\n{line}\n{refused}\n{}\n", advice(ran.refused)), Json::Object(fields), REFUSED)
 }

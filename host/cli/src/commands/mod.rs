@@ -30,6 +30,14 @@ fn size(args: &Args) -> Result<u32, Failure> {
     size_of(letter).ok_or_else(|| format!("--size is '{letter}': b, h, s or d would do").into())
 }
 
+/// The number of a register, with its letter or without; 31 for `xzr`.
+fn register(text: &str, letter: char) -> Option<u64> {
+    if letter == 'x' && text.eq_ignore_ascii_case("xzr") {
+        return Some(31);
+    }
+    natural(text.strip_prefix([letter, letter.to_ascii_uppercase()]).unwrap_or(text))
+}
+
 /// The number that an option gives; `what` says what would do.
 fn number(args: &Args, key: &str, what: &str) -> Result<Option<u64>, Failure> {
     let wrong = |text| format!("{} is '{text}': {what} would do", dashed(key)).into();

@@ -3,18 +3,20 @@ use crate::commands::asm::{assembled, source};
 use crate::failure::{why, Failure, Outcome, DONE};
 use crate::image::named;
 use crate::lanes::{elements, predicate, size_of};
+use crate::list;
+use crate::save::{is_same_file, save};
 use crate::style::Style;
 use crate::words::{counted, grouped, natural, numbers, wrapping};
 use plokamyr::{write, Flags, Predicate, Reply, State, IMAGE_MAX, WORDS_MAX};
-use std::fs;
 use std::ops::RangeInclusive;
+use std::path::{Path, PathBuf};
 
 pub fn command(args: &Args, _: Style) -> Result<Outcome, Failure> {
     let path = args.value("o").ok_or("-o FILE is missing: where to write the image")?;
     let state = state(args)?;
     let words = match args.operands.as_slice() {
         [] => Vec::new(),
-        _ => kernel(super::only(args, "KERNEL.s")?, path)?,
+        _ => kernel(super::only(args, "KERNEL")?, path)?,
     };
     let mut image = vec![0; IMAGE_MAX];
     let written = write(&state, &words, &mut image);
@@ -25,16 +27,22 @@ pub fn command(args: &Args, _: Style) -> Result<Outcome, Failure> {
     if path == "-" {
         return Ok(Outcome::new(image, DONE));
     }
-    fs::write(path, &image).map_err(|error| format!("{} cannot be written: {}", named(path), why(&error)))?;
+    save(Path::new(path), &image).map_err(|error| format!("{} cannot be written: {}", named(path), why(&error)))?;
     Ok(Outcome::new("", DONE))
 }
 
+/// The words of a kernel: of its instructions, or as a list of words has them.
 fn kernel(path: &str, image: &str) -> Result<Vec<u32>, Failure> {
-    let place = |path| fs::canonicalize(path).ok();
-    if path != "-" && place(path).is_some() && place(path) == place(image) {
-        return Err(format!("-o is {}: another file than the kernel would do", named(image)).into());
+    let opened = |name: &str, stream| PathBuf::from(if name == "-" { stream } else { name });
+    if is_same_file(&opened(path, "/dev/stdin"), &opened(image, "/dev/stdout")) {
+        let image = if image == "-" { "standard output" } else { image };
+        return Err(format!("-o is {image}: another file than the kernel would do").into());
     }
-    let words = assembled(&named(path), &source(path)?)?;
+    let source = source(path)?;
+    let words = match list::is_list(&source) {
+        true => list::words(&named(path), &source)?,
+        false => assembled(&named(path), &source)?,
+    };
     if words.len() > WORDS_MAX {
         let most = grouped(WORDS_MAX as u64);
         return Err(
@@ -117,10 +125,9 @@ fn general(text: &str) -> Result<(usize, u64), Failure> {
     })
 }
 
-fn register(text: &str, letter: char, numbers: usize) -> Option<usize> {
-    natural(text.strip_prefix(letter).unwrap_or(text))
-        .filter(|number| *number < numbers as u64)
-        .map(|number| number as usize)
+/// The number of a register of so many.
+fn register(text: &str, letter: char, numbers: u64) -> Option<usize> {
+    super::register(text, letter).filter(|number| *number < numbers).map(|number| number as usize)
 }
 
 /// `0.s=0-4,7` or `p0.s=0-4,7`.

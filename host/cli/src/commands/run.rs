@@ -1,9 +1,11 @@
 use crate::args::Args;
-use crate::change::{changes, Change, View};
+use crate::change::{changes, Change, Counters};
 use crate::commands::dis;
 use crate::failure::{status_of, Failure, Outcome, IMAGE_REFUSED};
+use crate::faults::{fault, Fault};
 use crate::image::{bytes, image};
 use crate::json::Json;
+use crate::reason::{reason, told};
 use crate::style::Style;
 use plokamyr::{text, Flags, Reply, State};
 
@@ -15,7 +17,7 @@ pub fn command(args: &Args, style: Style) -> Result<Outcome, Failure> {
     let bytes = bytes(path)?;
     let image = match image(&bytes) {
         Ok(image) => image,
-        Err(reply) => return Ok(Outcome::either(args, IMAGE_REFUSED, || json(reply, &[], false), || lines(&bytes))),
+        Err(reply) => return Ok(refused(args, &bytes, reply)),
     };
     let status = status_of(image.state.clone().run(&image.words).refused);
     let trace = args.has("trace");
@@ -23,7 +25,16 @@ pub fn command(args: &Args, style: Style) -> Result<Outcome, Failure> {
         return Ok(Outcome::new(text(&bytes), status));
     }
     let steps = steps(image.state, &image.words);
-    Ok(Outcome::either(args, status, || json(Reply::Done, &steps, trace), || traced(&lines(&bytes), &steps, style)))
+    let json = || Json::Object(fields(Reply::Done, &steps, trace));
+    Ok(Outcome::either(args, status, json, || traced(&lines(&bytes), &steps, style)))
+}
+
+/// The answer to a refused image. A trace also has where the fault is.
+fn refused(args: &Args, bytes: &[u8], reply: Reply) -> Outcome {
+    let fault = fault(bytes).filter(|_| args.has("trace"));
+    let fields = [fields(reply, &[], false), fault.iter().flat_map(Fault::fields).collect()].concat();
+    let text = || lines(bytes) + &fault.iter().map(|fault| format!("{fault}\n")).collect::<String>();
+    Outcome::either(args, IMAGE_REFUSED, || Json::Object(fields), text)
 }
 
 /// What the program prints.
@@ -37,19 +48,23 @@ struct Step {
     reply: Reply,
     flags: Flags,
     changes: Vec<Change>,
+    reason: Option<String>,
 }
 
 /// Steps words until one is refused, which is the last.
 fn steps(mut state: State, words: &[u32]) -> Vec<Step> {
     let mut steps = Vec::new();
+    let mut counters = Counters::default();
     for &word in words {
         let before = state.clone();
         let reply = state.step(word);
-        let changes = changes(&before, &state, View::of_word(word));
-        steps.push(Step { word, reply, flags: state.flags, changes });
+        let changes = changes(&before, &state, counters.view(word));
+        let reason = reason(&state, word, reply);
+        steps.push(Step { word, reply, flags: state.flags, changes, reason });
         if reply != Reply::Done {
             break;
         }
+        counters.step(word, &before, &state);
     }
     steps
 }
@@ -74,15 +89,15 @@ fn traced(lines: &str, steps: &[Step], style: Style) -> String {
 fn effect(step: &Step, style: Style) -> String {
     match step.reply {
         Reply::Done => step.changes.iter().map(Change::to_string).collect::<Vec<_>>().join(", "),
-        refusal => style.red(&format!("refused: {refusal}")),
+        refusal => style.red(&format!("refused: {}", told(refusal, step.reason.as_deref()))),
     }
 }
 
-fn json(reply: Reply, steps: &[Step], trace: bool) -> Json {
+fn fields(reply: Reply, steps: &[Step], trace: bool) -> Vec<(&'static str, Json)> {
     let done = steps.iter().filter(|step| step.reply == Reply::Done).count();
     let words = (0..).zip(steps).map(|(number, step)| step_json(number, step, trace));
     let reply = ("reply", Json::Number(reply.number()));
-    Json::Object(vec![reply, ("words", Json::list(words)), ("done", Json::Number(done as u32))])
+    vec![reply, ("words", Json::list(words)), ("done", Json::Number(done as u32))]
 }
 
 fn step_json(number: u32, step: &Step, trace: bool) -> Json {
@@ -95,6 +110,7 @@ fn step_json(number: u32, step: &Step, trace: bool) -> Json {
     if trace {
         fields.push(("text", dis::text_json(step.word)));
         fields.push(("changes", Json::list(step.changes.iter().map(Change::json))));
+        fields.extend(step.reason.iter().map(|reason| ("reason", Json::text(reason))));
     }
     Json::Object(fields)
 }
