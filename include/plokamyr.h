@@ -24,6 +24,28 @@
 extern "C" {
 #endif
 
+/* The version: major * 10000 + minor * 100 + patch, and as text. CHANGELOG.md says what came with each. */
+#define PLOKAMYR_VERSION 900
+#define PLOKAMYR_VERSION_TEXT "0.9.0"
+
+/* The number of the layout: of the structs below, and of what each function is handed. It goes up with any change of these. */
+#define PLOKAMYR_LAYOUT 3
+
+/* Answers the number of the layout. Only a library of this layout has it. */
+uint32_t plokamyr_layout_3(void);
+
+/* What is compiled with this header refers to that function, called or not, so that it does not link with a library of another layout. The reference
+ * is a note, since linkers keep notes whatever they leave out. A program that has the types alone and links no library defines PLOKAMYR_UNLINKED. */
+#if defined(__GNUC__) && defined(__x86_64__) && defined(__ELF__) && !defined(PLOKAMYR_UNLINKED)
+__asm__(".pushsection .note.plokamyr, \"a\", @note\n"
+        "\t.balign 4\n"
+        "\t.long 9, 4, 3\n" /* bytes of the name, bytes after it, the number of the layout */
+        "\t.asciz \"Plokamyr\"\n"
+        "\t.balign 4\n"
+        "\t.long plokamyr_layout_3@PLT\n"
+        "\t.popsection");
+#endif
+
 /* Later versions may add replies: keep a default. */
 enum plokamyr_reply {
     PLOKAMYR_DONE = 0,

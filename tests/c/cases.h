@@ -1,4 +1,4 @@
-/* What edges.c and shared.c go through: words of each level, words that are none of ours, illegal states. */
+/* What the tests of refusals go through: words of each level, words that are none of ours, illegal states. */
 #ifndef CASES_H
 #define CASES_H
 
@@ -33,47 +33,47 @@ static const uint32_t unsupported[UNSUPPORTED] = {0x25000000, 0x25FFFFFF, 0x2518
 
 enum { ILLEGAL = 44 };
 
-static struct plokamyr_state with_length(uint64_t vl) {
+static inline struct plokamyr_state with_length(uint64_t vl) {
     struct plokamyr_state s = sample(128);
     s.vl = vl;
     return recounted(s);
 }
 
-static struct plokamyr_state with_level(uint8_t level) {
+static inline struct plokamyr_state with_level(uint8_t level) {
     struct plokamyr_state s = sample(512);
     s.level = level;
     return s;
 }
 
 /* A legal state but for one bit of a predicate, at or above vl / 8. */
-static struct plokamyr_state with_bit(uint64_t vl, int p, uint64_t bit) {
+static inline struct plokamyr_state with_bit(uint64_t vl, int p, uint64_t bit) {
     struct plokamyr_state s = sample(vl);
     s.p[p].words[bit / 64] |= UINT64_C(1) << (bit % 64);
     return s;
 }
 
 /* The same for a bit of FFR. */
-static struct plokamyr_state with_ffr_bit(uint64_t vl, uint64_t bit) {
+static inline struct plokamyr_state with_ffr_bit(uint64_t vl, uint64_t bit) {
     struct plokamyr_state s = sample(vl);
     s.ffr.words[bit / 64] |= UINT64_C(1) << (bit % 64);
     return s;
 }
 
 /* A count by the number of its size, 0 to 3 for B, H, S, D. */
-static uint16_t *count_at(struct plokamyr_state *s, int p, int size) {
+static inline uint16_t *count_at(struct plokamyr_state *s, int p, int size) {
     struct plokamyr_counts *counts = &s->counts[p];
     uint16_t *const each[4] = {&counts->b, &counts->h, &counts->s, &counts->d};
     return each[size];
 }
 
 /* A legal state but for one count, which is one more or one less than it is. */
-static struct plokamyr_state with_count(uint64_t vl, int p, int size, int change) {
+static inline struct plokamyr_state with_count(uint64_t vl, int p, int size, int change) {
     struct plokamyr_state s = sample(vl);
     *count_at(&s, p, size) += (uint16_t)change;
     return s;
 }
 
-static struct plokamyr_state illegal(int number) {
+static inline struct plokamyr_state illegal(int number) {
     static const uint64_t bad[14] = {0, 1, 16, 127, 129, 192, 384, 640, 1920, 2049, 4096, 0x100000080, UINT64_C(1) << 63, UINT64_MAX};
     if (number < 14) return with_length(bad[number]);
     static const uint8_t levels[6] = {4, 5, 8, 128, 254, 255};

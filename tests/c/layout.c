@@ -1,6 +1,11 @@
 /* The structs lie in memory as the library reads and writes them. */
 #include "check.h"
 
+static void number(void) {
+    CHECK(PLOKAMYR_LAYOUT == 3);
+    CHECK(plokamyr_layout_3() == PLOKAMYR_LAYOUT);
+}
+
 static void sizes(void) {
     CHECK(sizeof(enum plokamyr_reply) == 4);
     CHECK(sizeof(struct plokamyr_predicate) == 32);
@@ -456,6 +461,7 @@ static void parts_apart(uint64_t vl) {
 }
 
 int main(void) {
+    number();
     sizes();
     state_offsets();
     answer_offsets();

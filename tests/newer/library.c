@@ -7,6 +7,10 @@ static enum plokamyr_reply numbered(uint32_t number) {
     return (enum plokamyr_reply)number;
 }
 
+uint32_t plokamyr_layout_3(void) {
+    return PLOKAMYR_LAYOUT;
+}
+
 /* The counts are as many as the vector length says. */
 struct plokamyr_state plokamyr_counted(struct plokamyr_state state) {
     uint16_t number = (uint16_t)state.vl;

@@ -19,6 +19,10 @@ use Rattle.capi.specs.declared.SharedWalked.{SharedWalked}
 use Rattle.capi.specs.declared.Reading.{Reading}
 use Rattle.capi.specs.declared.Written.{Written}
 
+-- the third layout that C has met: with FFR after P, and counts after FFR
+abbrev pub layout : ℕ
+layout = 3
+
 -- the state of these settings and lent parts
 abbrev pub stateIn : ℕ → ℕ → Bool → List Bool → List ℕ → List (List ℕ) → List (List ℕ) → State
 stateIn vl level access f x p c = stateAt (record { vl = vl; level = level; access = access }) f x p c

@@ -12,7 +12,7 @@ ghost use Rattle.image.specs.Reading.{readOf, listAfter};
 ghost use Rattle.image.specs.Writing.{writtenOf, bufferAfter};
 ghost use Rattle.transcript.specs.Transcript.{transcriptOf, afterAll, placedAll};
 ghost use Rattle.shared.specs.Shared as Kernels;
-ghost use Rattle.capi.specs.Answers.{stateIn, SteppedParts, RanParts, walkedAs, sharedSteppedAs, sharedWalkedAs, readAs, writtenAs};
+ghost use Rattle.capi.specs.Answers.{layout, stateIn, SteppedParts, RanParts, walkedAs, sharedSteppedAs, sharedWalkedAs, readAs, writtenAs};
 ghost use Rattle.words.specs.Rows.{decodedReply, decodedRow, encodedReply, encodedWord};
 use registers::COUNTED;
 use registers::PREDICATES;
@@ -63,6 +63,14 @@ pub struct Reading {
 pub struct Written {
     pub reply: u32,
     pub length: usize,
+}
+
+// The number of the layout: of the structs above and of what each function here is handed. Its name bears it, so that a host compiled for another layout does not link.
+#[no_mangle]
+pub extern "C" fn plokamyr_layout_3() -> u32
+    ensures { λ r. ⌜ r ≡ layout ⌝ }
+{
+    3
 }
 
 // One instruction word, executed on a state's parts where they stand; `p` is P0 to P15 and FFR, `counts` those of P0 to P15. The header's plokamyr_step lends those of a struct.

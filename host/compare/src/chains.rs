@@ -4,6 +4,7 @@
 use crate::boundary;
 use crate::counters::{ready, step};
 use crate::differences::{show_state, show_words, Differences, Outcome};
+use crate::digits::Digits;
 use crate::kind::{Forms, Kind};
 use crate::lent::{byte, Lent};
 use crate::seen::Seen;
@@ -35,17 +36,8 @@ impl Case {
     const COUNT: usize = WRITERS.len() * LENGTHS.len() * STARTS.len() * DRAWS;
 
     fn new(number: u64) -> Case {
-        let mut rest = number as usize;
-        let mut below = |end: usize| {
-            let digit = rest % end;
-            rest /= end;
-            digit
-        };
-        Case {
-            writer: WRITERS[below(WRITERS.len())],
-            vl: LENGTHS[below(LENGTHS.len())],
-            start: STARTS[below(STARTS.len())],
-        }
+        let mut digits = Digits::of(number);
+        Case { writer: digits.pick(&WRITERS), vl: digits.pick(&LENGTHS), start: digits.pick(&STARTS) }
     }
 }
 

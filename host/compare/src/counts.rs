@@ -3,6 +3,7 @@
 
 use crate::boundary;
 use crate::differences::Outcome;
+use crate::digits::Digits;
 use crate::illegal::Asked;
 use crate::kind::{Forms, Kind};
 use crate::seen::Seen;
@@ -48,17 +49,12 @@ impl Case {
     const COUNT: usize = LENGTHS.len() * 16 * 4 * (WAYS.len() + BITS) * DRAWS;
 
     fn new(number: u64) -> Case {
-        let mut rest = number as usize;
-        let mut below = |end: usize| {
-            let digit = rest % end;
-            rest /= end;
-            digit
-        };
+        let mut digits = Digits::of(number);
         Case {
-            vl: LENGTHS[below(LENGTHS.len())],
-            register: below(16),
-            size: below(4),
-            wrong: match below(WAYS.len() + BITS) {
+            vl: digits.pick(&LENGTHS),
+            register: digits.below(16),
+            size: digits.below(4),
+            wrong: match digits.below(WAYS.len() + BITS) {
                 bit if bit < BITS => Wrong::Bit(bit),
                 way => WAYS[way - BITS],
             },

@@ -2,6 +2,7 @@
 
 use crate::counters::ready;
 use crate::differences::{show_state, show_word, Outcome};
+use crate::digits::Digits;
 use crate::kind::{Forms, Kind};
 use crate::logic::flags_under;
 use crate::seen::Seen;
@@ -61,19 +62,14 @@ impl Case {
     const COUNT: usize = FORMS.len() * 16 * 16 * LENGTHS.len() * MASKS.len() * (SHAPES.len() + 1);
 
     fn new(number: u64) -> Case {
-        let mut rest = number as usize;
-        let mut below = |end: usize| {
-            let digit = rest % end;
-            rest /= end;
-            digit
-        };
+        let mut digits = Digits::of(number);
         Case {
-            form: FORMS[below(FORMS.len())],
-            pg: below(16) as u8,
-            pd: below(16) as u8,
-            vl: LENGTHS[below(LENGTHS.len())],
-            mask: MASKS[below(MASKS.len())],
-            ffr: SHAPES.get(below(SHAPES.len() + 1)).copied(),
+            form: digits.pick(&FORMS),
+            pg: digits.below(16) as u8,
+            pd: digits.below(16) as u8,
+            vl: digits.pick(&LENGTHS),
+            mask: digits.pick(&MASKS),
+            ffr: SHAPES.get(digits.below(SHAPES.len() + 1)).copied(),
         }
     }
 

@@ -2,6 +2,7 @@
 
 use crate::random::Random;
 use crate::states;
+pub use model::forms::*;
 use model::{encode, Row, State};
 
 pub const FORMS: [&str; 17] = [
@@ -65,37 +66,6 @@ pub const WIDTHS: [&[u8]; FORMS.len()] = [
     &[4, 4],
     &[4, 4],
 ];
-
-/// The numbers of the forms that write a predicate by comparisons, or a pair of them.
-pub const WHILE_ONE: u8 = 0;
-pub const WHILE_PAIR: u8 = 1;
-
-/// The numbers of the forms that write a counter and read one.
-pub const WHILE_COUNTER: u8 = 2;
-pub const CNTP_COUNTER: u8 = 6;
-
-/// The numbers of the forms that go by the count of Pm. The fields are size, D, U, sf, Pm, Rdn; without saturation, size, D,
-/// Pm, Rdn.
-pub const SATURATING: u8 = 3;
-pub const INC_DEC: u8 = 4;
-
-/// The number of PNEXT. The fields are size, Pv, Pdn.
-pub const PNEXT: u8 = 7;
-
-/// The numbers of PFIRST, PTEST and PFALSE. The fields are Pg, Pdn; Pg, Pn; Pd.
-pub const PFIRST: u8 = 8;
-pub const PTEST: u8 = 9;
-pub const PFALSE: u8 = 10;
-
-/// The number of predicate logic. The fields are op, S, Pm, Pg, o2, Pn, o3, Pd.
-pub const LOGIC: u8 = 11;
-
-/// The numbers of FFR's forms. The fields are those of Pg, Pn and Pd that the form names, in this order.
-pub const SETFFR: u8 = 12;
-pub const WRFFR: u8 = 13;
-pub const RDFFR: u8 = 14;
-pub const RDFFR_PG: u8 = 15;
-pub const RDFFRS_PG: u8 = 16;
 
 /// The word of one of FFR's forms, or of another with as few fields.
 pub fn short_word(form: u8, fields: &[u8]) -> u32 {

@@ -1,6 +1,7 @@
 //! Predicate logic: each operation with all ways in which its registers coincide.
 
 use crate::differences::{show_state, show_word, Outcome};
+use crate::digits::Digits;
 use crate::kind::{Forms, Kind};
 use crate::seen::Seen;
 use crate::steps::by_either_way;
@@ -48,18 +49,13 @@ impl Case {
     const COUNT: usize = PATTERNS.len() * OPERATIONS.len() * 2 * LENGTHS.len() * SHAPES.len().pow(3);
 
     fn new(number: u64) -> Case {
-        let mut rest = number as usize;
-        let mut below = |end: usize| {
-            let digit = rest % end;
-            rest /= end;
-            digit
-        };
+        let mut digits = Digits::of(number);
         Case {
-            pattern: PATTERNS[below(PATTERNS.len())],
-            operation: below(OPERATIONS.len()),
-            s: below(2) as u8,
-            vl: LENGTHS[below(LENGTHS.len())],
-            shapes: [(); 3].map(|()| SHAPES[below(SHAPES.len())]),
+            pattern: digits.pick(&PATTERNS),
+            operation: digits.below(OPERATIONS.len()),
+            s: digits.below(2) as u8,
+            vl: digits.pick(&LENGTHS),
+            shapes: [(); 3].map(|()| digits.pick(&SHAPES)),
         }
     }
 }

@@ -11,6 +11,7 @@ mod counted;
 mod counters;
 mod counts;
 mod differences;
+mod digits;
 mod ffr;
 mod illegal;
 mod images;

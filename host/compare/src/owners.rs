@@ -2,6 +2,7 @@
 //! same time.
 
 use crate::differences::{show_shared, Outcome};
+use crate::digits::Digits;
 use crate::kind::{Forms, Kind};
 use crate::seen::Seen;
 use crate::taken::{show_turn, take};
@@ -43,17 +44,12 @@ impl Case {
     const COUNT: usize = FORMS.len() * KERNELS.len() * BEFORE.len() * LENGTHS.len() * DRAWS;
 
     fn new(number: u64) -> Case {
-        let mut rest = number as usize;
-        let mut below = |end: usize| {
-            let digit = rest % end;
-            rest /= end;
-            digit
-        };
+        let mut digits = Digits::of(number);
         Case {
-            form: below(FORMS.len()) as u8,
-            kernel: KERNELS[below(KERNELS.len())],
-            before: BEFORE[below(BEFORE.len())],
-            vl: LENGTHS[below(LENGTHS.len())],
+            form: digits.below(FORMS.len()) as u8,
+            kernel: digits.pick(&KERNELS),
+            before: digits.pick(&BEFORE),
+            vl: digits.pick(&LENGTHS),
         }
     }
 

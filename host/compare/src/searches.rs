@@ -2,6 +2,7 @@
 
 use crate::counters::ready;
 use crate::differences::{show_state, show_word, Outcome};
+use crate::digits::Digits;
 use crate::kind::{Forms, Kind};
 use crate::seen::Seen;
 use crate::steps::by_either_way;
@@ -37,18 +38,13 @@ impl Case {
     const END: u64 = 2 * (LENGTHS.len() * SIZES.len()) as u64 * LARGEST * (LARGEST + 1);
 
     fn new(number: u64) -> Case {
-        let mut rest = number;
-        let mut below = |end: u64| {
-            let digit = rest % end;
-            rest /= end;
-            digit
-        };
+        let mut digits = Digits::of(number);
         Case {
-            last: below(LARGEST + 1).checked_sub(1),
-            element: below(LARGEST),
-            size: below(SIZES.len() as u64) as u8,
-            length: LENGTHS[below(LENGTHS.len() as u64) as usize],
-            others: below(2) == 1,
+            last: (digits.below(LARGEST as usize + 1) as u64).checked_sub(1),
+            element: digits.below(LARGEST as usize) as u64,
+            size: digits.below(SIZES.len()) as u8,
+            length: digits.pick(&LENGTHS),
+            others: digits.below(2) == 1,
         }
     }
 

@@ -1,6 +1,7 @@
 //! Walks by each kernel, with every number of each register, and with each other refusal at the same time.
 
 use crate::differences::{show_shared, Outcome};
+use crate::digits::Digits;
 use crate::kind::{Forms, Kind};
 use crate::seen::Seen;
 use crate::taken::{show_turn, take};
@@ -46,18 +47,13 @@ impl Case {
     const COUNT: usize = KERNELS.len() * BEFORE.len() * 2 * 2 * LENGTHS.len() * DRAWS;
 
     fn new(number: u64) -> Case {
-        let mut rest = number as usize;
-        let mut below = |end: usize| {
-            let digit = rest % end;
-            rest /= end;
-            digit
-        };
+        let mut digits = Digits::of(number);
         Case {
-            kernel: KERNELS[below(KERNELS.len())],
-            before: BEFORE[below(BEFORE.len())],
-            short: below(2) == 1,
-            spent: below(2) == 1,
-            vl: LENGTHS[below(LENGTHS.len())],
+            kernel: digits.pick(&KERNELS),
+            before: digits.pick(&BEFORE),
+            short: digits.below(2) == 1,
+            spent: digits.below(2) == 1,
+            vl: digits.pick(&LENGTHS),
         }
     }
 

@@ -2,6 +2,7 @@
 
 use crate::counters::{cntp, ready, step, GROUPS};
 use crate::differences::{show_state, show_word, show_words, Outcome};
+use crate::digits::Digits;
 use crate::kind::{Forms, Kind};
 use crate::seen::Seen;
 use compare::counter::{group, last_bit, Reading, BELOW_INVERSION};
@@ -33,10 +34,11 @@ impl Case {
     const END: u64 = (LENGTHS.len() * GROUPS.len() * CONDITIONS.len()) as u64 * (LARGEST + 1);
 
     fn new(number: u64) -> Case {
-        let (rest, count) = ((number / (LARGEST + 1)) as usize, number % (LARGEST + 1));
-        let (size, vl) = GROUPS[rest % GROUPS.len()];
-        let rest = rest / GROUPS.len();
-        Case { length: LENGTHS[rest / CONDITIONS.len()], size, vl, condition: rest % CONDITIONS.len(), count }
+        let mut digits = Digits::of(number);
+        let count = digits.below(LARGEST as usize + 1) as u64;
+        let (size, vl) = digits.pick(&GROUPS);
+        let condition = digits.below(CONDITIONS.len());
+        Case { length: digits.pick(&LENGTHS), size, vl, condition, count }
     }
 
     fn group(&self) -> u64 {

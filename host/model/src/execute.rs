@@ -1,6 +1,7 @@
 //! "What each does". Every function reads all the registers it needs, masks included, before it writes any.
 
 use crate::counter::{counter_to_predicate, encode_pred_count, pred_count_test};
+use crate::forms::*;
 use crate::state::{psize, Flags, State};
 use crate::words::*;
 

@@ -6,6 +6,7 @@
 
 mod counter;
 mod execute;
+pub mod forms;
 mod image;
 mod reply;
 mod shared;

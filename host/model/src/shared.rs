@@ -1,9 +1,10 @@
 //! Two kernels that take turns on one register file: request K7.
 
+use crate::forms::*;
 use crate::reply::NOT_OWNED;
 use crate::state::{Flags, State};
 use crate::walk::{Registers, Walked};
-use crate::words::*;
+use crate::words::Row;
 use crate::{step, walk};
 
 /// The index kernel and the query kernel.

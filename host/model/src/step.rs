@@ -1,9 +1,10 @@
 //! One word, and words one after the other.
 
 use crate::execute::{execute, is_run_from_bit_0, BYTES};
+use crate::forms::WRFFR;
 use crate::reply::*;
 use crate::state::State;
-use crate::words::{decode, decode_refusal, level, Row, WRFFR};
+use crate::words::{decode, decode_refusal, level, Row};
 
 /// The run's own reply, that to the word it stopped at, and the words done before.
 #[derive(Clone, PartialEq, Eq, Debug)]

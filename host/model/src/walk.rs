@@ -1,9 +1,10 @@
 //! The plain walk, as document 01 words it.
 
 use crate::execute::{execute, last_active_element};
+use crate::forms::{INC_DEC, PFALSE, PNEXT, WHILE_ONE};
 use crate::reply::*;
 use crate::state::State;
-use crate::words::{Row, INC_DEC, PFALSE, PNEXT, WHILE_ONE};
+use crate::words::Row;
 
 #[derive(Clone, PartialEq, Eq, Debug)]
 pub struct Walked {

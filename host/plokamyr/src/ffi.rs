@@ -1,11 +1,12 @@
 //! The calls to the library, and all `unsafe` of this crate. The structs are those of `include/plokamyr.h`.
 //!
 //! Each call is safe if what the header asks of a caller is there: pointers valid for their counts, buffers that do not
-//! overlap, bools of 0 or 1. A `bool` of Rust is one, and the library hands back no other.
+//! overlap, bools of 0 or 1. A `bool` of Rust is one, and the library hands back no other. The structs are those of the
+//! library only if its layout has the number that [`bind`] names.
 
 use crate::{Counts, Flags, Kernel, Predicate, Reply, Shared, State};
 use std::mem::{align_of, size_of};
-use std::ptr::addr_of_mut;
+use std::ptr::{addr_of, addr_of_mut};
 
 /// A reply as C hands it over: a number, since an enum of Rust must not hold a stranger.
 pub type Number = u32;
@@ -82,6 +83,7 @@ const _: () = {
 };
 
 extern "C" {
+    fn plokamyr_layout_3() -> u32;
     fn plokamyr_counted(state: State) -> State;
     fn plokamyr_step_parts(
         vl: u64,
@@ -136,7 +138,19 @@ extern "C" {
     fn plokamyr_encode(row: *const RawRow, word: *mut u32) -> Number;
 }
 
+/// The function that only a library of this layout has.
+static LAYOUT: unsafe extern "C" fn() -> u32 = plokamyr_layout_3;
+
+/// Each call refers to [`LAYOUT`], so that it does not link with a library of another layout. The read is volatile, since a
+/// reference that nothing reads is left out.
+#[inline(always)]
+fn bind() {
+    // SAFETY: a static is readable.
+    unsafe { addr_of!(LAYOUT).read_volatile() };
+}
+
 pub fn counted(state: &State) -> State {
+    bind();
     // SAFETY: the state is a copy, and any is taken.
     unsafe { plokamyr_counted(state.clone()) }
 }
@@ -153,6 +167,7 @@ fn parts(state: &mut State) -> (*mut Flags, *mut [u64; 31], *mut Predicates, *mu
 }
 
 pub fn step(state: &mut State, word: u32) -> Reply {
+    bind();
     let State { vl, level, access, .. } = *state;
     let (flags, x, p, counts) = parts(state);
     // SAFETY: the parts are lent for writing and for this call alone, lie apart, and have C's layout. `p` and `ffr` are
@@ -161,11 +176,13 @@ pub fn step(state: &mut State, word: u32) -> Reply {
 }
 
 pub fn step_lent(state: &mut State, word: u32) -> Reply {
+    bind();
     // SAFETY: the state is lent for writing and for this call alone, and its layout is C's.
     Reply::from_number(unsafe { plokamyr_step_lent(state, word) })
 }
 
 pub fn run(state: &mut State, words: &[u32]) -> Ran {
+    bind();
     let State { vl, level, access, .. } = *state;
     let (flags, x, p, counts) = parts(state);
     // SAFETY: the slice is readable for its length; of the parts the same holds as for a step.
@@ -173,6 +190,7 @@ pub fn run(state: &mut State, words: &[u32]) -> Ran {
 }
 
 pub fn walk(state: &State, route: Route, list: &mut [u64], budget: u64) -> Walked {
+    bind();
     let Route { size, n, m, d, k } = route;
     let (places, length) = (list.as_mut_ptr(), list.len());
     // SAFETY: the list is lent for writing, for its length and for this call alone; the state is a copy.
@@ -185,11 +203,13 @@ fn is_second(kernel: Kernel) -> bool {
 }
 
 pub fn shared_step(shared: &Shared, kernel: Kernel, word: u32) -> SharedStepped {
+    bind();
     // SAFETY: the shared state is a copy, and any is taken.
     unsafe { plokamyr_shared_step(shared.clone(), is_second(kernel), word) }
 }
 
 pub fn shared_walk(shared: &Shared, kernel: Kernel, route: Route, list: &mut [u64], budget: u64) -> SharedWalked {
+    bind();
     let Route { size, n, m, d, k } = route;
     let (places, length) = (list.as_mut_ptr(), list.len());
     // SAFETY: the list is lent for writing, for its length and for this call alone; the shared state is a copy.
@@ -197,29 +217,34 @@ pub fn shared_walk(shared: &Shared, kernel: Kernel, route: Route, list: &mut [u6
 }
 
 pub fn read(image: &[u8], words: &mut [u32]) -> Reading {
+    bind();
     let (places, length) = (words.as_mut_ptr(), words.len());
     // SAFETY: both slices are valid for their lengths, and a slice lent for writing overlaps no other.
     unsafe { plokamyr_read(image.as_ptr(), image.len(), places, length) }
 }
 
 pub fn write(state: &State, words: &[u32], image: &mut [u8]) -> Written {
+    bind();
     let (bytes, room) = (image.as_mut_ptr(), image.len());
     // SAFETY: both slices are valid for their lengths, and a slice lent for writing overlaps no other; the state is a copy.
     unsafe { plokamyr_write(state.clone(), words.as_ptr(), words.len(), bytes, room) }
 }
 
 pub fn text(image: &[u8], text: &mut [u8]) -> usize {
+    bind();
     let (bytes, room) = (text.as_mut_ptr(), text.len());
     // SAFETY: both slices are valid for their lengths, and a slice lent for writing overlaps no other.
     unsafe { plokamyr_text(image.as_ptr(), image.len(), bytes, room) }
 }
 
 pub fn decode(word: u32, row: &mut RawRow) -> Reply {
+    bind();
     // SAFETY: the row has the nine places that the library writes.
     Reply::from_number(unsafe { plokamyr_decode(word, row) })
 }
 
 pub fn encode(row: &RawRow, word: &mut u32) -> Reply {
+    bind();
     // SAFETY: the row has the nine places that the library reads; the word is another local.
     Reply::from_number(unsafe { plokamyr_encode(row, word) })
 }

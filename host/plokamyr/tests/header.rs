@@ -1,4 +1,5 @@
 //! The numbers here are those of `include/plokamyr.h`, read from it. `PLOKAMYR_INCLUDE` is its folder if it lies elsewhere.
+//! The version is that of the workspace, from which the command and `./install` have it.
 
 use plokamyr::{Form, Reply, Shared, State, IMAGE_MAX, TEXT_MAX, WORDS_MAX};
 use std::mem::size_of;
@@ -27,10 +28,19 @@ fn names(header: &str, name: &str) -> Vec<String> {
     entries.collect()
 }
 
+/// What a name is defined as.
+fn defined<'a>(header: &'a str, name: &str) -> &'a str {
+    let line = header.lines().find_map(|line| line.strip_prefix(&format!("#define {name} ")));
+    line.expect("the header has the constant")
+}
+
 fn constant(header: &str, name: &str) -> usize {
-    let line = header.lines().find(|line| line.starts_with(&format!("#define {name} ")));
-    let number = line.expect("the header has the constant").split_whitespace().nth(2);
-    number.and_then(|number| number.parse().ok()).expect("a constant is a number")
+    defined(header, name).parse().expect("a constant is a number")
+}
+
+fn file(name: &str) -> String {
+    let file = PathBuf::from(env!("CARGO_MANIFEST_DIR")).join("../..").join(name);
+    fs::read_to_string(&file).unwrap_or_else(|error| panic!("{}: {error}", file.display()))
 }
 
 #[test]
@@ -78,4 +88,38 @@ fn constants() {
     assert_eq!(constant(&header, "PLOKAMYR_IMAGE_MAX"), IMAGE_MAX);
     assert_eq!(constant(&header, "PLOKAMYR_TEXT_MAX"), TEXT_MAX);
     assert_eq!(constant(&header, "PLOKAMYR_ROW"), 1 + 8);
+}
+
+/// One version: the workspace's, this crate's, the header's as a text and as a number, and the newest of CHANGELOG.md.
+#[test]
+fn versions() {
+    let version = env!("CARGO_PKG_VERSION");
+    let header = header();
+    let parts: Vec<usize> = version.split('.').map(|part| part.parse().expect("a number")).collect();
+    assert!(matches!(parts[..], [_, 0..=99, 0..=99]), "{version}");
+    assert!(file("host/Cargo.toml").contains(&format!("[workspace.package]\nversion = \"{version}\"\n")), "{version}");
+    assert_eq!(defined(&header, "PLOKAMYR_VERSION_TEXT"), format!("\"{version}\""));
+    assert_eq!(constant(&header, "PLOKAMYR_VERSION"), parts[0] * 10_000 + parts[1] * 100 + parts[2]);
+    let changes = file("CHANGELOG.md");
+    let newest = changes.lines().find_map(|line| line.strip_prefix("## ")).expect("the log has a heading");
+    assert_eq!(newest.split(&[' ', ':', ','][..]).next(), Some(version));
+}
+
+/// How many bytes a state had in each layout, the first being 1: a state that grows is another layout.
+const STATES: [usize; 3] = [776, 808, 936];
+
+/// The layout's number, wherever the header and the table of CHANGELOG.md have it.
+#[test]
+fn layouts() {
+    let (header, changes) = (header(), file("CHANGELOG.md"));
+    for (bytes, layout) in STATES.iter().zip(1..) {
+        let row = format!("\n| {layout} | {bytes} bytes | ");
+        assert_eq!(changes.matches(&row).count(), 1, "{row}");
+    }
+    let layout = constant(&header, "PLOKAMYR_LAYOUT");
+    assert_eq!((layout, size_of::<State>()), (STATES.len(), STATES[STATES.len() - 1]));
+    let numbers = header.split("plokamyr_layout_").skip(1).map(|rest| rest.split(|c: char| !c.is_ascii_digit()).next());
+    let numbers: Vec<_> = numbers.collect();
+    assert_eq!(numbers, [Some(layout.to_string().as_str()); 2]);
+    assert!(header.contains(&format!(".long 9, 4, {layout}\\n")), "the note has another number");
 }
