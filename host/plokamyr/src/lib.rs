@@ -1,5 +1,9 @@
 //! Plokamyr, the predicate part of an Arm SVE interpreter: the proved library behind types that leave nothing to get wrong.
 //!
+//! ```
+#![cfg_attr(any(doc, doctest), doc = include_str!("../../../examples/rust/first.rs"))]
+//! ```
+//!
 //! What C leaves to the caller (valid pointers, buffers that do not overlap, bools of 0 or 1) the types here give.
 //! Every call is answered: a refusal carries its [`Reply`] and leaves every state and buffer as it was, but for
 //! [`Reply::BudgetSpent`], which keeps the work done so far. A [run](State::run) that comes to a refused word is not

@@ -1,6 +1,8 @@
 //! What `docs/FORMAT.md` says in tables and hex, held to the library and to an example.
 
-use plokamyr::{encode, read, text, write, Form, Kernel, Predicate, Reply, Row, Shared, State, IMAGE_MAX, WORDS_MAX};
+use plokamyr::{
+    encode, read, text, write, Form, Kernel, Predicate, Reply, Row, Shared, State, IMAGE_MAX, TEXT_MAX, WORDS_MAX,
+};
 use std::fs;
 use std::ops::RangeInclusive;
 use std::path::PathBuf;
@@ -101,6 +103,11 @@ fn the_lines_are_the_example() {
     let lines = section.split("```").nth(1).expect("the lines").trim_start_matches('\n');
     assert_eq!(lines.as_bytes(), file("examples/first.out"));
     assert_eq!(lines.as_bytes(), text(&file("examples/first.image")));
+}
+
+#[test]
+fn room_for_any_text() {
+    assert!(section("The program's lines").contains(&format!("{} bytes are room for any", grouped(TEXT_MAX))));
 }
 
 #[test]
