@@ -19,6 +19,9 @@
 //! The library itself is an archive; `rt staticlib capi` makes it. `PLOKAMYR_LIB` names its folder if that is not
 //! `target/staticlib` of the repository: one with `libcapi.a`, or with `libplokamyr.a`, as `./install PREFIX` fills
 //! `PREFIX/lib`. A relative path begins where cargo is called; it is looked up, and this crate compiled, at each build.
+//!
+//! The crate and the archive have one layout of the structs that they share. With an archive of another layout no call
+//! links: the linker then names `plokamyr_layout_` and the number that is missing.
 
 #![deny(unsafe_code)]
 #![warn(missing_debug_implementations)]
