@@ -2,19 +2,19 @@
 use mathlib.Core.Bool.{Bool, true, false, _||_}
 use mathlib.Core.List.{List, []}
 use mathlib.Core.Path.{_≡_, refl, sym, ap, ap₂, _∙_, subst, subst₂}
-use Prim.Native.Nat.{ℕ}
+use Prim.Native.Nat.{ℕ, _<_}
 use native.Mathlib.Omega.{arith}
 use lib.Dec.{leb, ltb}
 use lib.ListN.{length, List·getD-eq-default}
 use borrow.Author.Tests.{le-ltb, lt-leb, leb-true, ltb-true}
 use Rattle.predicates.specs.Predicate.{allFalse}
-use Rattle.tally.specs.Counts.{noCounts}
+use Rattle.tally.specs.Counts.{countsOf, noCounts}
 use Rattle.replies.specs.declared.Reply.{Reply}
 use Rattle.replies.specs.Reply.{isDone}
 use Rattle.registers.specs.declared.State.{State}
 use Rattle.registers.specs.Legal.{legal}
 use Rattle.registers.specs.State.{ffr, readX, readP, readCounts, withFlags}
-use Rattle.registers.proofs.Legality.{legal-sized, withFlags-legal}
+use Rattle.registers.proofs.Legality.{legal-sized, kept-counts, withFlags-legal}
 use Rattle.registers.proofs.Registers.{Sized}
 use Rattle.words.specs.Words.{decodeOf}
 use Rattle.machine.specs.declared.Stepped as Machine′
@@ -82,6 +82,15 @@ others-p Second r h =
 
 -- ---- alike shared states, and the states as the kernel has them
 
+owned-below : (who : Kernel) (r : ℕ) → ownsP who r ≡ true → r < 16
+owned-below First r h = let l = ltb-true r 8 h in omega arith
+owned-below Second r h = ltb-true r 16 (both (leb 8 r) (ltb r ffr) h .1)
+
+-- counts follow from the registers that they stand beside
+pub alike-counts : (who : Kernel) (s t : Shared) → legal (s .state) ≡ true → legal (t .state) ≡ true → Alike who s t → (r : ℕ) → ownsP who r ≡ true → readCounts (s .state) r ≡ readCounts (t .state) r
+alike-counts who s t ks kt h r o =
+    sym (kept-counts (s .state) r ks (owned-below who r o)) ∙ ap₂ countsOf (h .vl) (h .p r o) ∙ kept-counts (t .state) r kt (owned-below who r o)
+
 module _ (who : Kernel) (s t : Shared) (ks : legal (s .state) ≡ true) (kt : legal (t .state) ≡ true) where
   pub alike-same : Alike who s t → Same who (stateFor who s) (stateFor who t)
   unfolding stateFor withFlags
@@ -122,14 +131,14 @@ module _ (who : Kernel) (s t : Shared) (ks : legal (s .state) ≡ true) (kt : le
         where
           go : (b : Bool) → ltb ffr r ≡ b → readCounts (s .state) r ≡ readCounts (t .state) r
           go true e = let l = ltb-true 16 r e in List·getD-eq-default (s .state .counts) noCounts (omega (arith, left .cs)) ∙ sym (List·getD-eq-default (t .state .counts) noCounts (omega (arith, right .cs)))
-          go false e = h .counts r (sym (named-p who r e) ∙ m)
+          go false e = alike-counts who s t ks kt h r (sym (named-p who r e) ∙ m)
 
 pub same-alike : (who : Kernel) (s t : Shared) (a b : State) → Same who a b → Alike who (sharedAfter who s a) (sharedAfter who t b)
 unfolding sharedAfter withFlags
 same-alike First s t a b h =
-    record { vl = h .vl; level = h .level; access = h .access; x = λ r o. h .x r (own-x First r o); p = λ r o. h .p r (own-p First r o); counts = λ r o. h .counts r (own-p First r o); flags = h .flags }
+    record { vl = h .vl; level = h .level; access = h .access; x = λ r o. h .x r (own-x First r o); p = λ r o. h .p r (own-p First r o); flags = h .flags }
 same-alike Second s t a b h =
-    record { vl = h .vl; level = h .level; access = h .access; x = λ r o. h .x r (own-x Second r o); p = λ r o. h .p r (own-p Second r o); counts = λ r o. h .counts r (own-p Second r o); flags = h .flags }
+    record { vl = h .vl; level = h .level; access = h .access; x = λ r o. h .x r (own-x Second r o); p = λ r o. h .p r (own-p Second r o); flags = h .flags }
 
 -- ---- what an action leaves alone
 
@@ -159,7 +168,6 @@ frame-alike who s t f = record {
   access = sym (f .access);
   x = λ r h. sym (f .x r (others-x who r h));
   p = λ r h. sym (f .p r (others-p who r h));
-  counts = λ r h. sym (f .counts r (others-p who r h));
   flags = back who (f .flags);
 }
   where

@@ -21,8 +21,8 @@ use Rattle.shared.specs.declared.Shared.{Shared}
 use Rattle.shared.specs.Ownership.{ownsX, ownsP}
 use Rattle.shared.specs.Schedule.{Action, Turn, answerOf, afterAction, afterTurns, actionsOf, answersOf, Alike}
 use Rattle.shared.proofs.Naming.{nobodys}
-use Rattle.shared.proofs.Actions.{frame-alike, action-kept, action-frame, action-alike, illegal-action}
-use Rattle.shared.proofs.Isolation.{alike-self, isolation}
+use Rattle.shared.proofs.Actions.{alike-counts, frame-alike, action-kept, action-frame, action-alike, illegal-action}
+use Rattle.shared.proofs.Isolation.{alike-self, turns-kept, isolation}
 
 -- ---- what is alike to both, FFR besides, is the same
 
@@ -61,8 +61,8 @@ module _ (s t : Shared) (ks : legal (s .state) ≡ true) (kt : legal (t .state) 
   all-counts : (r : ℕ) → r < length (s .state .counts) → readCounts (s .state) r ≡ readCounts (t .state) r
   all-counts r l =
       elim (decLt r 8) [
-        | yes h ↦ first .counts r (lt-ltb r 8 h)
-        | no h ↦ second .counts r (second-p r (omega arith) (omega (arith, left .cs)))
+        | yes h ↦ alike-counts First s t ks kt first r (lt-ltb r 8 h)
+        | no h ↦ alike-counts Second s t ks kt second r (second-p r (omega arith) (omega (arith, left .cs)))
       ]
 
   -- flags: the first's stand in the state, the second's beside it
@@ -80,11 +80,6 @@ module _ (s t : Shared) (ks : legal (s .state) ≡ true) (kt : legal (t .state) 
           (ext-getD allFalse (s .state .p) (t .state .p) (left .ps ∙ sym (right .ps)) all-p) (ext-getD noCounts (s .state .counts) (t .state .counts) (left .cs ∙ sym (right .cs)) all-counts)
 
 -- ---- schedules
-
-turns-kept : (us : List Turn) (s : Shared) → legal (s .state) ≡ true → legal (afterTurns s us .state) ≡ true
-unfolding afterTurns
-turns-kept [] s k = k
-turns-kept (u ∷ us) s k = turns-kept us (afterAction (u .kernel) s (u .action)) (action-kept (u .kernel) s (u .action) k)
 
 -- no schedule touches FFR
 pub turns-ffr : (us : List Turn) (s : Shared) → legal (s .state) ≡ true → readP (afterTurns s us .state) ffr ≡ readP (s .state) ffr

@@ -20,7 +20,7 @@ use Rattle.replies.specs.declared.Reply.the-variants.{Done, LevelTooLow, Access
 use Rattle.replies.specs.Reply.{numberOf}
 use Rattle.registers.specs.Legal.{hasAllRegisters, isLength, hasStrayBit, hasWrongCount, illegal, legal}
 use Rattle.registers.specs.State.{allCounts, made, readX, readP, withX, withP, withFlags}
-use Rattle.registers.proofs.Registers.{readX-other, readP-other, readCounts-other}
+use Rattle.registers.proofs.Registers.{readX-other, readP-other}
 use Rattle.scalars.specs.declared.Condition.the-variants.{Less}
 use Rattle.scalars.specs.While.{operandAt, comparison, allHeld}
 use Rattle.words.specs.declared.Instruction.{Instruction}
@@ -121,7 +121,6 @@ replaced-alike x17 p9 flags = record {
   access = refl;
   x = λ r h. sym (readX-other (held .state) 17 r x17 (λ e. let l = ltb-true r 16 h in omega arith));
   p = λ r h. sym (readP-other (withX (held .state) 17 x17) 9 r (pack (testBit p9)) (λ e. let l = ltb-true r 8 h in omega arith));
-  counts = λ r h. sym (readCounts-other (withX (held .state) 17 x17) 9 r (pack (testBit p9)) (λ e. let l = ltb-true r 8 h in omega arith));
   flags = refl;
 }
 

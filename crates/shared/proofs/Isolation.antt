@@ -2,14 +2,17 @@
 use mathlib.Core.Bool.{Bool, true, false}
 use mathlib.Core.List.{List, [], _∷_}
 use mathlib.Core.Path.{_≡_, refl, sym, ap, ap₂, _∙_, subst}
+use Prim.Native.Nat.{ℕ}
 use Rattle.bits.specs.Choice.{pick}
 use Rattle.bits.proofs.Searches.{never}
 use Rattle.registers.specs.Legal.{legal}
+use Rattle.registers.specs.State.{readCounts}
 use Rattle.shared.specs.declared.Kernel.{Kernel}
 use Rattle.shared.specs.declared.Kernel.the-variants.{First, Second}
 use Rattle.shared.specs.declared.Shared.{Shared}
+use Rattle.shared.specs.Ownership.{ownsP}
 use Rattle.shared.specs.Schedule.{Action, Turn, answerOf, afterAction, afterTurns, same, actionsOf, answersOf, Alike}
-use Rattle.shared.proofs.Actions.{other, Frame, frame-alike, action-kept, action-frame, action-alike}
+use Rattle.shared.proofs.Actions.{other, alike-counts, Frame, frame-alike, action-kept, action-frame, action-alike}
 
 pub alike-on : (who : Kernel) (s t u : Shared) → Alike who s t → Alike who t u → Alike who s u
 alike-on who s t u f g = record {
@@ -18,7 +21,6 @@ alike-on who s t u f g = record {
   access = f .access ∙ g .access;
   x = λ r h. f .x r h ∙ g .x r h;
   p = λ r h. f .p r h ∙ g .p r h;
-  counts = λ r h. f .counts r h ∙ g .counts r h;
   flags = f .flags ∙ g .flags;
 }
 
@@ -29,12 +31,11 @@ alike-back who s t f = record {
   access = sym (f .access);
   x = λ r h. sym (f .x r h);
   p = λ r h. sym (f .p r h);
-  counts = λ r h. sym (f .counts r h);
   flags = sym (f .flags);
 }
 
 pub alike-self : (who : Kernel) (s : Shared) → Alike who s s
-alike-self who s = record { vl = refl; level = refl; access = refl; x = λ r h. refl; p = λ r h. refl; counts = λ r h. refl; flags = refl }
+alike-self who s = record { vl = refl; level = refl; access = refl; x = λ r h. refl; p = λ r h. refl; flags = refl }
 
 -- ---- a schedule beside the one kernel's actions alone
 
@@ -58,13 +59,25 @@ same-self : (w : Kernel) → same w w ≡ true
 same-self First = refl
 same-self Second = refl
 
--- one run's answers and end
+-- a legal state stays legal
+pub turns-kept : (us : List Turn) (s : Shared) → legal (s .state) ≡ true → legal (afterTurns s us .state) ≡ true
+unfolding afterTurns
+turns-kept [] s k = k
+turns-kept (u ∷ us) s k = turns-kept us (afterAction (u .kernel) s (u .action)) (action-kept (u .kernel) s (u .action) k)
+
+-- one run's answers and end, beside another's
 pub record Outcome (who : Kernel) (s t : Shared) (us vs : List Turn) : Type 0 where
+  pub answers : answersOf who s us ≡ answersOf who t vs
+  pub after : Alike who (afterTurns s us) (afterTurns t vs)
+  pub counts : (r : ℕ) → ownsP who r ≡ true → readCounts (afterTurns s us .state) r ≡ readCounts (afterTurns t vs .state) r
+
+-- two runs' answers and ends, alike to a kernel
+pub record Course (who : Kernel) (s t : Shared) (us vs : List Turn) : Type 0 where
   pub answers : answersOf who s us ≡ answersOf who t vs
   pub after : Alike who (afterTurns s us) (afterTurns t vs)
 
 -- the other's turns do not show: one turn more
-module _ (who : Kernel) (u : Turn) (us : List Turn) (more : (s t : Shared) → legal (s .state) ≡ true → legal (t .state) ≡ true → Alike who s t → Outcome who s t us (alone who (actionsOf who us))) (s t : Shared) (ks : legal (s .state) ≡ true) (kt : legal (t .state) ≡ true) (h : Alike who s t) where
+module _ (who : Kernel) (u : Turn) (us : List Turn) (more : (s t : Shared) → legal (s .state) ≡ true → legal (t .state) ≡ true → Alike who s t → Course who s t us (alone who (actionsOf who us))) (s t : Shared) (ks : legal (s .state) ≡ true) (kt : legal (t .state) ≡ true) (h : Alike who s t) where
   abbrev next : Shared
   next = afterAction (u .kernel) s (u .action)
 
@@ -75,7 +88,7 @@ module _ (who : Kernel) (u : Turn) (us : List Turn) (more : (s t : Shared) → l
   unfolding answersOf
   shown b e = ap (λ (c : Bool). pick c (answerOf who s (u .action) ∷ answersOf who next us) (answersOf who next us)) e
 
-  own : same who (u .kernel) ≡ true → Outcome who s t (u ∷ us) (alone who (u .action ∷ actionsOf who us))
+  own : same who (u .kernel) ≡ true → Course who s t (u ∷ us) (alone who (u .action ∷ actionsOf who us))
   unfolding afterTurns answersOf alone
   own e =
       let k : who ≡ u .kernel = same-is who (u .kernel) e in
@@ -91,7 +104,7 @@ module _ (who : Kernel) (u : Turn) (us : List Turn) (more : (s t : Shared) → l
         after = rest .after;
       }
 
-  others : same who (u .kernel) ≡ false → Outcome who s t (u ∷ us) (alone who (actionsOf who us))
+  others : same who (u .kernel) ≡ false → Course who s t (u ∷ us) (alone who (actionsOf who us))
   unfolding afterTurns
   others e =
       let frame : Frame (other who) s next = subst (λ (w : Kernel). Frame w s next) (other-is who (u .kernel) e) (action-frame (u .kernel) s (u .action) ks) in
@@ -99,16 +112,16 @@ module _ (who : Kernel) (u : Turn) (us : List Turn) (more : (s t : Shared) → l
       let rest = more next t kept kt here in
       record { answers = shown false e ∙ rest .answers; after = rest .after }
 
-  one-more : Outcome who s t (u ∷ us) (alone who (actionsOf who (u ∷ us)))
+  one-more : Course who s t (u ∷ us) (alone who (actionsOf who (u ∷ us)))
   unfolding actionsOf
   one-more = go (same who (u .kernel)) refl
     where
-      go : (b : Bool) → same who (u .kernel) ≡ b → Outcome who s t (u ∷ us) (alone who (pick (same who (u .kernel)) (u .action ∷ actionsOf who us) (actionsOf who us)))
-      go true e = subst (λ (c : Bool). Outcome who s t (u ∷ us) (alone who (pick c (u .action ∷ actionsOf who us) (actionsOf who us)))) (sym e) (own e)
-      go false e = subst (λ (c : Bool). Outcome who s t (u ∷ us) (alone who (pick c (u .action ∷ actionsOf who us) (actionsOf who us)))) (sym e) (others e)
+      go : (b : Bool) → same who (u .kernel) ≡ b → Course who s t (u ∷ us) (alone who (pick (same who (u .kernel)) (u .action ∷ actionsOf who us) (actionsOf who us)))
+      go true e = subst (λ (c : Bool). Course who s t (u ∷ us) (alone who (pick c (u .action ∷ actionsOf who us) (actionsOf who us)))) (sym e) (own e)
+      go false e = subst (λ (c : Bool). Course who s t (u ∷ us) (alone who (pick c (u .action ∷ actionsOf who us) (actionsOf who us)))) (sym e) (others e)
 
 module _ (who : Kernel) where
-  by-itself : (us : List Turn) (s t : Shared) → legal (s .state) ≡ true → legal (t .state) ≡ true → Alike who s t → Outcome who s t us (alone who (actionsOf who us))
+  by-itself : (us : List Turn) (s t : Shared) → legal (s .state) ≡ true → legal (t .state) ≡ true → Alike who s t → Course who s t us (alone who (actionsOf who us))
   unfolding afterTurns actionsOf answersOf alone
   by-itself [] s t ks kt h = record { answers = refl; after = h }
   by-itself (u ∷ us) s t ks kt h = one-more who u us (by-itself us) s t ks kt h
@@ -117,5 +130,10 @@ module _ (who : Kernel) where
   pub isolation : (s t : Shared) (us vs : List Turn) → legal (s .state) ≡ true → legal (t .state) ≡ true → Alike who s t → actionsOf who us ≡ actionsOf who vs → Outcome who s t us vs
   isolation s t us vs ks kt h e =
       let left = by-itself us s t ks kt h in
-      let right : Outcome who t t vs (alone who (actionsOf who us)) = subst (λ (l : List Action). Outcome who t t vs (alone who l)) (sym e) (by-itself vs t t kt kt (alike-self who t)) in
-      record { answers = left .answers ∙ sym (right .answers); after = alike-on who _ _ _ (left .after) (alike-back who _ _ (right .after)) }
+      let right : Course who t t vs (alone who (actionsOf who us)) = subst (λ (l : List Action). Course who t t vs (alone who l)) (sym e) (by-itself vs t t kt kt (alike-self who t)) in
+      let after = alike-on who _ _ _ (left .after) (alike-back who _ _ (right .after)) in
+      record {
+        answers = left .answers ∙ sym (right .answers);
+        after = after;
+        counts = alike-counts who (afterTurns s us) (afterTurns t vs) (turns-kept us s ks) (turns-kept vs t kt) after;
+      }

@@ -5,7 +5,7 @@ use mathlib.Core.List.{List, [], _∷_}
 use mathlib.Core.Path.{_≡_}
 use Rattle.bits.specs.Choice.{pick}
 use Rattle.replies.specs.declared.Reply.{Reply}
-use Rattle.registers.specs.State.{readX, readP, readCounts}
+use Rattle.registers.specs.State.{readX, readP}
 use Rattle.shared.specs.declared.Kernel.{Kernel}
 use Rattle.shared.specs.declared.Kernel.the-variants.{First, Second}
 use Rattle.shared.specs.declared.Shared.{Shared}
@@ -60,12 +60,11 @@ answersOf who s (t ∷ ts) =
     let rest = answersOf who (afterAction (t .kernel) s (t .action)) ts in
     pick (same who (t .kernel)) (answerOf who s (t .action) ∷ rest) rest
 
--- vector length, level, access, the registers that a kernel owns with the counts beside them, and its flags
+-- vector length, level, access, the registers that a kernel owns, and its flags. In legal states the counts beside them are then the same too (`alike-counts`)
 pub record Alike (who : Kernel) (s t : Shared) : Type 0 where
   pub vl : s .state .vl ≡ t .state .vl
   pub level : s .state .level ≡ t .state .level
   pub access : s .state .access ≡ t .state .access
   pub x : (r : ℕ) → ownsX who r ≡ true → readX (s .state) r ≡ readX (t .state) r
   pub p : (r : ℕ) → ownsP who r ≡ true → readP (s .state) r ≡ readP (t .state) r
-  pub counts : (r : ℕ) → ownsP who r ≡ true → readCounts (s .state) r ≡ readCounts (t .state) r
   pub flags : flagsFor who s ≡ flagsFor who t
