@@ -66,7 +66,7 @@ drop_lock() {
 # build WHAT FILE CRATE WORDS...: proves CRATE and all that it needs, and has 'rt WORDS' write FILE.
 build() {
     type -P rt > /dev/null ||
-        fail "the $1 has to be proved and built first, and rt is not on the path: it is in the folder bin of the Rattle kit (README.md says what that is)"
+        fail "the $1 has to be proved and built first, and rt is not on the path: it is in the folder bin of the Rattle kit (README.md: What is needed)"
     { mkdir -p "${2%/*}" "$here/target/proved" && touch "$2.unfinished"; } 2> /dev/null || nothing_written target
     find_left "$3"
     prove "$1" "${@:4}"
