@@ -42,7 +42,7 @@ description() {
 # could say otherwise is said: the archive, the kind of machine, and where the command goes.
 run_cargo() {
     exec {lock}>&-
-    PLOKAMYR_LIB=$here/target/staticlib PLOKAMYR_BUILD=$(description)
+    PLOKAMYR_LIB=$here/target/staticlib PLOKAMYR_BUILD=$(< "$begun")
     export PLOKAMYR_LIB PLOKAMYR_BUILD
     cargo build --offline --quiet --release -p cli --target "$1" --target-dir target
 }
@@ -51,13 +51,18 @@ build_binary() {
     local machine
     type -P cargo > /dev/null || fail "the command has to be built first, and cargo is not on the path"
     say "building the command first; that takes about half a minute"
-    { mkdir -p "${binary%/*}" && touch "$begun"; } 2> /dev/null || nothing_written host/target
+    { mkdir -p "${binary%/*}" && description > "$begun"; } 2> /dev/null || nothing_written host/target
     machine=$(cd "$here/host" && cargo -vV < /dev/null | sed -n 's/^host: //p')
     [ -n "$machine" ] || fail "cargo does not tell for which machine it builds"
     (cd "$here/host" && run_cargo "$machine") < /dev/null >&2 || fail "the command could not be built"
     [ -x "$here/host/target/$machine/release/plokamyr" ] || fail "cargo has built no command"
     { cp "$here/host/target/$machine/release/plokamyr" "$binary.part" && mv "$binary.part" "$binary" && mv "$begun" "$built"; } 2> /dev/null ||
         nothing_written host/target
+}
+
+# For who hands the command on: what --version tells is to be so of the repository as it stands.
+forget_other_build() {
+    [ ! -e "$built" ] || [ "$(< "$built")" = "$(description)" ] || rm -f "$built" || nothing_written host/target
 }
 
 make_ready() {
