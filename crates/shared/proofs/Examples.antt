@@ -24,7 +24,7 @@ use Rattle.registers.proofs.Registers.{readX-other, readP-other}
 use Rattle.scalars.specs.declared.Condition.the-variants.{Less}
 use Rattle.scalars.specs.While.{operandAt, comparison, allHeld}
 use Rattle.words.specs.declared.Instruction.{Instruction}
-use Rattle.words.specs.declared.Instruction.the-variants.{While, IncDec, Cntp, CntpCounter, Ptest, Pfalse, Setffr, Wrffr, Rdffr}
+use Rattle.words.specs.declared.Instruction.the-variants.{While, IncDec, Cntp, Ptest, Pfalse, Setffr, Wrffr, Rdffr}
 use Rattle.words.specs.declared.Target.the-variants.{One, Pair, Counter}
 use Rattle.words.specs.Layout.{fits}
 use Rattle.words.specs.Words.{readBy, wordOf}

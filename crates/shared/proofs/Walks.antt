@@ -4,10 +4,10 @@ use mathlib.Core.Bool.{Bool, true, false, not, _&&_, _||_}
 use mathlib.Core.List.{List}
 use mathlib.Core.Logic.{_↔_}
 use mathlib.Core.Path.{_≡_, refl, sym, ap, ap₂, subst, _∙_}
-use Prim.Native.Nat.{ℕ, _≤_, _<_}
+use Prim.Native.Nat.{ℕ, _<_}
 use native.Mathlib.Decide.{decLt}
 use native.Mathlib.Omega.{arith}
-use lib.Dec.{leb, ltb, eqb}
+use lib.Dec.{ltb, eqb}
 use lib.ListN.{length}
 use borrow.Author.Tests.{lt-ltb, le-leb, lt-leb, eq-eqb, ne-eqb}
 use Rattle.bits.specs.Choice.{pick}
@@ -15,7 +15,6 @@ use Rattle.bits.proofs.Searches.{never}
 use Rattle.replies.specs.declared.Reply.{Reply}
 use Rattle.replies.specs.declared.Reply.the-variants.{Done, LevelTooLow, AccessOff, IllegalState, BadWalkRegisters, ListTooShort, BudgetSpent, NotOwned}
 use Rattle.replies.specs.Reply.{isDone}
-use Rattle.registers.specs.declared.State.{State}
 use Rattle.registers.specs.Legal.{legal}
 use Rattle.registers.specs.State.{withFlags}
 use Rattle.words.specs.Words.{sizeOf}

@@ -20,7 +20,7 @@ use Rattle.registers.proofs.Legality.{withFlags-legal}
 use Rattle.words.specs.declared.Decoded.{Decoded}
 use Rattle.words.specs.declared.Decoded.the-variants.{Ours, Refused}
 use Rattle.words.specs.declared.Instruction.{Instruction}
-use Rattle.words.specs.Words.{sizeOf, decodeOf, levelOf}
+use Rattle.words.specs.Words.{decodeOf, levelOf}
 use Rattle.instructions.specs.declared.operands.Values.{Values}
 use Rattle.instructions.specs.Ffr.{accepts}
 use Rattle.instructions.specs.Operands.{registersOf}
