@@ -18,13 +18,13 @@ use Rattle.registers.specs.Legal.{isLength, legal}
 use Rattle.registers.specs.State.{allFalse, ffr, made, readP}
 use Rattle.registers.proofs.Legality.{has-legal, made-counts}
 use Rattle.registers.proofs.Registers.{all-length}
-use Rattle.octets.specs.Bytes.{le, value, joined, over}
+use Rattle.octets.specs.Bytes.{le, value, joined, over, AreBytes}
 use Rattle.image.specs.Sections.{setting, sections, sectionAt, sectionReply, orElse, sectionsReply, startOf, bytesOf}
 use Rattle.image.specs.Image.{section, predicateBytes, imageOf}
 use Rattle.image.specs.Reading.{sectionsOf, isOld, imageReply, stateOf, wordsOf, renewed, readOf, listAfter}
-use Rattle.octets.proofs.Bytes.{AreBytes}
+use Rattle.image.specs.Held.{Held}
 use Rattle.image.proofs.Readings.{read-old, ffr-count}
-use Rattle.image.proofs.RoundTrips.{Held, read-written, list-written, written-new, written-read}
+use Rattle.image.proofs.RoundTrips.{read-written, list-written, written-new, written-read}
 
 -- VL 128, level 1, access on, X1 = 10, X2 = 13, all else zero
 abbrev pub state : State

@@ -18,11 +18,12 @@ use Rattle.bits.proofs.Counts.{above-none}
 use Rattle.bits.proofs.Searches.{some-no, some-none}
 use Rattle.predicates.specs.declared.Predicate.{Predicate}
 use Rattle.predicates.specs.Predicate.{bitAt, pack, hasBitFrom}
-use Rattle.predicates.proofs.Words.{Words, word, word-bits, pack-bit, pack-bits, pack-cong, four-words}
-use Rattle.octets.specs.Bytes.{le, value, numberAt}
+use Rattle.predicates.specs.Words.{Words}
+use Rattle.predicates.proofs.Words.{word, word-bits, pack-bit, pack-bits, pack-cong, four-words}
+use Rattle.octets.specs.Bytes.{le, value, numberAt, AreBytes}
 use Rattle.image.specs.Image.{predicateBytes}
 use Rattle.image.specs.Reading.{predicateOf}
-use Rattle.octets.proofs.Bytes.{AreBytes, length-le, value-le, value-below, le-value-at, bytes-drop, sets-append}
+use Rattle.octets.proofs.Bytes.{length-le, value-le, value-below, le-value-at, bytes-drop, sets-append}
 
 -- k bytes have 8 k bits
 pub byte-bits : (k : ℕ) → 256 ^ k ≡ 2 ^ (8 * k)

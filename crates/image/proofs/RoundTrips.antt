@@ -15,11 +15,11 @@ use Rattle.bits.specs.Bits.{testBit, number}
 use Rattle.bits.specs.Choice.{digit}
 use Rattle.bits.proofs.Bits.{digit-eq}
 use Rattle.bits.proofs.Searches.{digit-lt}
-use Rattle.octets.specs.Bytes.{le, value, parts, joined, over}
-use Rattle.octets.proofs.Bytes.{AreBytes, bytes-take, bytes-drop, length-le, value-le, value-below, le-value-at, length-parts, parts-at, parts-joined, joined-parts, length-joined}
+use Rattle.octets.specs.Bytes.{le, value, parts, joined, over, AreBytes}
+use Rattle.octets.proofs.Bytes.{bytes-take, bytes-drop, length-le, value-le, value-below, le-value-at, length-parts, parts-at, parts-joined, joined-parts, length-joined}
 use Rattle.predicates.specs.declared.Predicate.{Predicate}
 use Rattle.predicates.specs.Predicate.{pack, predicateLength, hasBitFrom}
-use Rattle.predicates.proofs.Words.{Words, pack-words}
+use Rattle.predicates.proofs.Words.{pack-words}
 use Rattle.replies.specs.declared.Reply.the-variants as R
 use Rattle.registers.specs.declared.State.{State}
 use Rattle.registers.specs.Legal.{hasAllRegisters, isLength, settingsAllowed, legal}
@@ -30,15 +30,11 @@ use Rattle.image.specs.Sections.{Section, setting, sections, sectionAt, 
 use Rattle.image.specs.Image.{section, settingItems, predicateBytes, flagItems, imageOf}
 use Rattle.image.specs.Reading.{vlOf, sectionsOf, xAt, predicatesAt, ffrAt, flagsAt, wordsAt, isOld, imageReply, flagsIn, predicateOf, ffrIn, stateOf, wordsOf, renewed, readOf, listAfter}
 use Rattle.image.specs.Writing.{writtenOf, bufferAfter}
+use Rattle.image.specs.Held.{Held}
 use Rattle.image.proofs.PredicateBytes.{byte-bits, length-bytes, predicate-back, predicate-again, predicate-within}
 use Rattle.image.proofs.SectionLaws.{Whole, next, unfaulted, after-missing, taken, after-taken}
 use Rattle.image.proofs.Readings.{Sound, sound, done-with-room, old-ffr, new-ffr, read-ffr}
 use Rattle.image.proofs.Writings.{section-length, largest-is, image-length, image-bytes, reply-done, legal-vl}
-
--- what every state of the code has: registers of 64 bits and predicates of four words
-pub record Held (s : State) : Type 0 where
-  pub xs : (i : ℕ) → getD (s .x) i 0 < 2 ^ 64
-  pub ps : (r : ℕ) → r < 17 → Words (readP s r)
 
 -- ---- a section that was written
 

@@ -27,14 +27,9 @@ use Rattle.predicates.proofs.Words.{pack-bit}
 use Rattle.scalars.specs.declared.Condition.{Condition}
 use Rattle.scalars.specs.While.{upward, comparison, allHeld}
 use Rattle.instructions.specs.Counter.{groupOf, counterOf, markOf, countEnd, counterElement, expanded, whileCounterOf, cntpCounterOf}
+use Rattle.instructions.specs.Readings.{expandedTo14, written}
 use Rattle.instructions.proofs.CounterLaws.{group-most, counter-cases, count-end-le}
 use Rattle.instructions.proofs.WhileLaws.{held-le}
-
--- a counter expanded by the count up to bit 14
-unfoldable pub expandedTo14 : ℕ → Predicate → ℕ → Bool
-expandedTo14 vl p b =
-    let j = markOf p in
-    ltb j 4 && spread j (counterElement vl j (bitAt p 15) (number (bitAt p) (suc j) (14 - j))) b
 
 -- ---- any predicate with no bit between the count's end and 15
 
@@ -69,10 +64,6 @@ clear-between inverted v e b h l m =
     even : (t : Bool) (k : ℕ) → 0 < k → digit t * 2 ^ k % 2 ≡ 1 → ⊥
     even true k h odd = let e : k ≡ suc (k - 1) = omega arith in omega (arith, ap (λ (x : ℕ). 2 ^ x) e, pow-suc 2 (k - 1))
     even false k h odd = omega arith
-
--- the counter of n elements of a group
-abbrev pub written : Bool → Bool → Size → ℕ → ℕ → Predicate
-written up four size n vl = pack (testBit (counterOf up (groupOf four (elements vl size)) n (shift size)))
 
 written-clear : (i : ℕ) → i ≤ 4 → (up four : Bool) (size : Size) (n : ℕ) → n ≤ groupOf four (elements (128 * 2 ^ i) size)
     → (b : ℕ) → 6 + i < b → b < 15 → bitAt (written up four size n (128 * 2 ^ i)) b ≡ false

@@ -7,3 +7,4 @@ pub mod Searches
 pub mod Logic
 pub mod Ffr
 pub mod Instructions
+pub mod Readings

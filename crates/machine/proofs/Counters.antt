@@ -16,7 +16,8 @@ use Rattle.words.specs.declared.Target.the-variants.{Counter}
 use Rattle.instructions.specs.Counter.{expanded, whileCounterOf}
 use Rattle.instructions.specs.Instructions.{computeOf}
 use Rattle.instructions.specs.Operands.{none}
-use Rattle.instructions.proofs.Readings.{expandedTo14, while-alike}
+use Rattle.instructions.specs.Readings.{expandedTo14}
+use Rattle.instructions.proofs.Readings.{while-alike}
 use Rattle.machine.specs.Execute.{apply, executeOf}
 
 module _ (s : State) (ok : legal s ≡ true) (c : Condition) (unsigned four : Bool) (size : Size) (rn rm pnd : ℕ) (small : pnd < 8) where

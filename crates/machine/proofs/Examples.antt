@@ -24,13 +24,13 @@ use Rattle.words.specs.declared.Instruction.the-variants.{While, Saturating, In
 use Rattle.words.specs.declared.Target.the-variants.{One, Pair, Counter}
 use Rattle.words.specs.Words.{readBy, decodeOf, wordOf, fieldsOf}
 use Rattle.instructions.specs.Counter.{counterOf, counterFlags, countEnd, expanded, whileCounterOf, cntpCounterOf}
-use Rattle.instructions.proofs.Readings.{expandedTo14}
 use Rattle.instructions.specs.Counts.{incDecOf, saturatingOf}
 use Rattle.instructions.specs.Ffr.{setffrOf, underMask, rdffrsPgOf}
 use Rattle.instructions.specs.Instructions.{computeOf}
 use Rattle.instructions.specs.Operands.{registersOf}
 use Rattle.instructions.specs.Searches.{pnextOf, ptestOf}
 use Rattle.instructions.specs.Whiles.{whileElement, whileOneOf, whilePairOf}
+use Rattle.instructions.specs.Readings.{expandedTo14}
 use Rattle.scalars.specs.Saturate.{clamp, saturating}
 use Rattle.scalars.specs.While.{operandAt, comparison, allHeld}
 use Rattle.machine.specs.declared.Stepped.{Stepped}

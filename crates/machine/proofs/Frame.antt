@@ -19,6 +19,7 @@ use Rattle.instructions.specs.Effect.{Effect}
 use Rattle.instructions.specs.Instructions.{computeOf}
 use Rattle.instructions.specs.Operands.{registersOf}
 use Rattle.machine.specs.Execute.{valuesOf, apply, executeOf}
+use Rattle.machine.specs.Frame.{SameSettings, Untouched}
 
 -- a state with flags set or kept is as it was but for them
 pub record Beside (s t : State) : Type 0 where
@@ -33,20 +34,6 @@ pub beside-flags : (s : State) (sets : Bool) (f : Flags) → Beside s (pick sets
 unfolding withFlags
 beside-flags s true f = record { vl = refl; level = refl; access = refl; x = refl; p = refl; counts = refl }
 beside-flags s false f = record { vl = refl; level = refl; access = refl; x = refl; p = refl; counts = refl }
-
--- VL, level and access
-pub record SameSettings (s t : State) : Type 0 where
-  pub vl : t .vl ≡ s .vl
-  pub level : t .level ≡ s .level
-  pub access : t .access ≡ s .access
-
--- an accepted step touches nothing else
-pub record Untouched (s t : State) (r : Registers) : Type 0 where
-  pub settings : SameSettings s t
-  pub x : (n : ℕ) → (n ≡ r .rd → ⊥) → readX t n ≡ readX s n
-  pub p : (n : ℕ) → (n ≡ r .pd → ⊥) → (n ≡ r .pd2 → ⊥) → readP t n ≡ readP s n
-  pub counts : (n : ℕ) → (n ≡ r .pd → ⊥) → (n ≡ r .pd2 → ⊥) → readCounts t n ≡ readCounts s n
-  pub flags : r .flags ≡ false → t .flags ≡ s .flags
 
 module _ (s : State) (r : Registers) (e : Effect) where
   abbrev flagged : State

@@ -29,7 +29,8 @@ use Rattle.machine.specs.Execute.{valuesOf, executeOf}
 use Rattle.machine.specs.Given.{Given}
 use Rattle.machine.specs.Given.Given.{illegal, foreign, unsupported, low, off, broken, done}
 use Rattle.machine.specs.Step.{replyOf, answered, afterWord, stepOf}
-use Rattle.machine.proofs.Frame.{Untouched, untouched}
+use Rattle.machine.specs.Frame.{Untouched}
+use Rattle.machine.proofs.Frame.{untouched}
 use Rattle.machine.proofs.Steps.{pick-yes, pick-no, step-legal}
 
 -- a word that is refused is no instruction

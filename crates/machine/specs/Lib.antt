@@ -1,3 +1,4 @@
 pub mod Execute
 pub mod Step
 pub mod Given
+pub mod Frame

@@ -11,11 +11,7 @@ use lib.ListN.{length, take, drop, getD, set, length-append, length-take, length
 use lib.Seq.{take-at, drop-at, take-add, take-all, drop-drop, drop-cons, getD-drop, length-take-le, sets, sets-eq}
 use mir.Syntax.{w8}
 use mir.Val.{Fits}
-use Rattle.octets.specs.Bytes.{le, value, parts, joined, over}
-
--- each is below 256, as in a slice of bytes
-abbrev pub AreBytes : List ℕ → Type 0
-AreBytes bs = (i : ℕ) → getD bs i 0 < 256
+use Rattle.octets.specs.Bytes.{le, value, parts, joined, over, AreBytes}
 
 pub bytes-take : (k : ℕ) (bs : List ℕ) → AreBytes bs → AreBytes (take k bs)
 bytes-take zero bs h i = lit< tt

@@ -1,7 +1,11 @@
 -- Numbers as bytes, lowest first, and runs of parts of one size.
-use Prim.Native.Nat.{ℕ, zero, suc, _+_, _*_, _/_, _%_, min}
+use Prim.Native.Nat.{ℕ, zero, suc, _+_, _*_, _/_, _%_, _<_, min}
 use mathlib.Core.List.{List, [], _∷_, _++_}
-use lib.ListN.{length, take, drop}
+use lib.ListN.{length, getD, take, drop}
+
+-- what the type of a slice of bytes says: each is below 256
+abbrev pub AreBytes : List ℕ → Type 0
+AreBytes bs = (i : ℕ) → getD bs i 0 < 256
 
 -- the k lowest bytes of n, lowest first
 unfoldable pub le : ℕ → ℕ → List ℕ

@@ -18,7 +18,8 @@ use Rattle.bits.proofs.Searches.{never, First, first-found, first-is, first-end
 use Rattle.bits.proofs.Sizes.{element-again, power-parts}
 use Rattle.predicates.specs.declared.Predicate.{Predicate}
 use Rattle.predicates.specs.Predicate.{bitAt, pack, active, spread, between, spanOf, hasBitFrom}
-use Rattle.predicates.proofs.Words.{Words, bit-past, pack-bit, pack-cong}
+use Rattle.predicates.specs.Words.{Words}
+use Rattle.predicates.proofs.Words.{bit-past, pack-bit, pack-cong}
 
 -- ---- an element's lowest bit
 

@@ -17,9 +17,10 @@ use Rattle.bits.proofs.Searches.{never, count-cong, count-end, some-yes, some-n
 use Rattle.predicates.specs.declared.Predicate.{Predicate}
 use Rattle.predicates.specs.PredTest.{atLowest, atHighest, predTest}
 use Rattle.predicates.specs.Predicate.{bitAt, pack, active, touched, spread, between, spanOf, predicateLength, elements, liveOf}
+use Rattle.predicates.specs.Words.{Words}
 use Rattle.predicates.proofs.ElementBits.{element-start, start-of, spread-at, span-bit, between-from-zero, in-bits, count-spread}
 use Rattle.predicates.proofs.Flagging.{flags-are}
-use Rattle.predicates.proofs.Words.{Words, bit-past, pack-bit, pack-cong, pack-words}
+use Rattle.predicates.proofs.Words.{bit-past, pack-bit, pack-cong, pack-words}
 
 -- E elements fit a predicate
 pub elements-fit : (vl : ℕ) (size : Size) → elements vl size * 2 ^ shift size ≤ 256

@@ -10,7 +10,8 @@ use Rattle.bits.specs.Search.{count, some, afterLast}
 use Rattle.bits.proofs.Searches.{never, count-le, count-all, count-low, count-add, count-end, some-found, some-none, some-no, last-found}
 use Rattle.predicates.specs.declared.Predicate.{Predicate}
 use Rattle.predicates.specs.Predicate.{bitAt, pack, monotonic}
-use Rattle.predicates.proofs.Words.{Words, pack-bit, pack-words, same-bits}
+use Rattle.predicates.specs.Words.{Words}
+use Rattle.predicates.proofs.Words.{pack-bit, pack-words, same-bits}
 
 -- a number below n passes, and one below it does not
 abbrev hole : (ℕ → Bool) → ℕ → Bool

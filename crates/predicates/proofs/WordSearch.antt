@@ -20,8 +20,9 @@ use Rattle.bits.proofs.Sizes.{element-again}
 use Rattle.predicates.specs.declared.Predicate.{Predicate}
 use Rattle.predicates.specs.PredTest.{atLowest, atHighest}
 use Rattle.predicates.specs.Predicate.{bitAt, active, spread}
+use Rattle.predicates.specs.Words.{Words}
 use Rattle.predicates.proofs.ElementBits.{at-start}
-use Rattle.predicates.proofs.Words.{Words, word, bit-in-word, bit-of-none}
+use Rattle.predicates.proofs.Words.{word, bit-in-word, bit-of-none}
 
 -- ---- words that are 0
 

@@ -14,11 +14,7 @@ use Rattle.bits.proofs.Searches.{never}
 use Rattle.bits.proofs.Bits.{testBit-number, testBit-zero, number-cong, number-lt, number-whole}
 use Rattle.predicates.specs.declared.Predicate.{Predicate}
 use Rattle.predicates.specs.Predicate.{bitAt, pack}
-
--- what every predicate of the code has: four words of 64 bits
-pub record Words (p : Predicate) : Type 0 where
-  pub four : length (p .words) ≡ 4
-  pub fit : (i : ℕ) → getD (p .words) i 0 < 2 ^ 64
+use Rattle.predicates.specs.Words.{Words}
 
 pub words-of : (p : Predicate) → length (p .words) ≡ 4 → ((i : ℕ) → Fits w64 (getD (p .words) i 0)) → Words p
 words-of p l f = record { four = l; fit = λ i. f i .fits }

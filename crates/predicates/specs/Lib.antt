@@ -1,2 +1,3 @@
 pub mod Predicate
 pub mod PredTest
+pub mod Words

@@ -33,14 +33,10 @@ use Rattle.shared.specs.Ownership.{ownsX, ownsP, mayNameX, mayNameP, may
 use Rattle.shared.specs.Shared.{flagsFor, stateFor, sharedAfter, stepOf, walkedFor, walkOf, listOf}
 use Rattle.shared.specs.Schedule.{Action, Answer, answerOf, afterAction, Alike}
 use Rattle.shared.specs.Schedule.Action.{step, walk}
+use Rattle.shared.specs.Isolation.{other, Frame}
 use Rattle.shared.proofs.Same.{Same, Apart, both}
 use Rattle.shared.proofs.Acting.{after-same, barred-same, after-apart, all-walked, barred-refusal-same, Agreeing, walked-same, walked-apart}
 use Rattle.shared.proofs.Ways.{step-may, step-not, step-illegal, walk-may, walk-not, list-may, list-not, walk-refused, walk-illegal}
-
--- the other kernel
-abbrev pub other : Kernel → Kernel
-other First = Second
-other Second = First
 
 -- ---- what a kernel owns it may name, and the other may not
 
@@ -141,16 +137,6 @@ same-alike Second s t a b h =
     record { vl = h .vl; level = h .level; access = h .access; x = λ r o. h .x r (own-x Second r o); p = λ r o. h .p r (own-p Second r o); flags = h .flags }
 
 -- ---- what an action leaves alone
-
--- the second is the first but for what the kernel may name and for its flags
-pub record Frame (who : Kernel) (s t : Shared) : Type 0 where
-  pub vl : t .state .vl ≡ s .state .vl
-  pub level : t .state .level ≡ s .state .level
-  pub access : t .state .access ≡ s .state .access
-  pub x : (r : ℕ) → mayNameX who r ≡ false → readX (t .state) r ≡ readX (s .state) r
-  pub p : (r : ℕ) → mayNameP who r ≡ false → readP (t .state) r ≡ readP (s .state) r
-  pub counts : (r : ℕ) → mayNameP who r ≡ false → readCounts (t .state) r ≡ readCounts (s .state) r
-  pub flags : flagsFor (other who) t ≡ flagsFor (other who) s
 
 frame-none : (who : Kernel) (s : Shared) → Frame who s s
 frame-none who s = record { vl = refl; level = refl; access = refl; x = λ r h. refl; p = λ r h. refl; counts = λ r h. refl; flags = refl }

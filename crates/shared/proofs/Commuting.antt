@@ -20,6 +20,7 @@ use Rattle.shared.specs.declared.Kernel.the-variants.{First, Second}
 use Rattle.shared.specs.declared.Shared.{Shared}
 use Rattle.shared.specs.Ownership.{ownsX, ownsP}
 use Rattle.shared.specs.Schedule.{Action, Turn, answerOf, afterAction, afterTurns, actionsOf, answersOf, Alike}
+use Rattle.shared.specs.Isolation.{Commutes}
 use Rattle.shared.proofs.Naming.{nobodys}
 use Rattle.shared.proofs.Actions.{alike-counts, frame-alike, action-kept, action-frame, action-alike, illegal-action}
 use Rattle.shared.proofs.Isolation.{alike-self, turns-kept, isolation}
@@ -102,13 +103,6 @@ interleaved s us vs k e f =
 -- ---- one action of each
 
 module _ (s : Shared) (a b : Action) where
-  -- the reply of each whether it comes first or second, and the state
-  abbrev pub Commutes : Type 0
-  Commutes =
-      (answerOf First (afterAction Second s b) a ≡ answerOf First s a) ×
-      (answerOf Second (afterAction First s a) b ≡ answerOf Second s b) ×
-      (afterAction Second (afterAction First s a) b ≡ afterAction First (afterAction Second s b) a)
-
   either-order : legal (s .state) ≡ true → afterAction Second (afterAction First s a) b ≡ afterAction First (afterAction Second s b) a
   unfolding afterTurns actionsOf
   either-order k =
@@ -116,7 +110,7 @@ module _ (s : Shared) (a b : Action) where
       let second : Turn = record { kernel = Second; action = b } in
       interleaved s (first ∷ second ∷ []) (second ∷ first ∷ []) k refl refl .2
 
-  legal-commutes : legal (s .state) ≡ true → Commutes
+  legal-commutes : legal (s .state) ≡ true → Commutes s a b
   legal-commutes k =
       let after-a = afterAction First s a in
       let after-b = afterAction Second s b in
@@ -125,10 +119,10 @@ module _ (s : Shared) (a b : Action) where
       (sym (action-alike First s after-b a k (action-kept Second s b k) to-b .0), sym (action-alike Second s after-a b k (action-kept First s a k) to-a .0), either-order k)
 
   -- whatever the state: one that reply 4 refuses stays as it is
-  pub commuting : Commutes
+  pub commuting : Commutes s a b
   commuting = go (legal (s .state)) refl
     where
-      go : (t : Bool) → legal (s .state) ≡ t → Commutes
+      go : (t : Bool) → legal (s .state) ≡ t → Commutes s a b
       go true e = legal-commutes e
       go false e =
           let ea = illegal-action First s a e in

@@ -41,7 +41,7 @@ use Rattle.machine.specs.Step as Machine
 use Rattle.walk.specs.Plain.{run}
 use Rattle.walk.specs.Walk as Walk
 use Rattle.walk.specs.Given.{GoodRegisters}
-use Rattle.walk.proofs.Accepted.{Typed}
+use Rattle.walk.specs.Lengths.{Typed}
 use Rattle.shared.specs.declared.Kernel.{Kernel}
 use Rattle.shared.specs.declared.Kernel.the-variants.{First, Second}
 use Rattle.shared.specs.declared.Shared.{Shared}
@@ -51,8 +51,9 @@ use Rattle.shared.specs.Ownership.{mayNameX, mayNameP, mayName, mayWalk}
 use Rattle.shared.specs.Shared.{stateFor, sharedAfter, afterWord, stepOf, refusalOf, walkOf}
 use Rattle.shared.specs.Schedule.{Action, Turn, Alike, actionsOf}
 use Rattle.shared.specs.Schedule.Action.{step, walk}
-use Rattle.shared.proofs.Isolation.{Outcome, isolation}
-use Rattle.shared.proofs.Commuting.{Commutes, commuting}
+use Rattle.shared.specs.Isolation.{Outcome, Commutes}
+use Rattle.shared.proofs.Isolation.{isolation}
+use Rattle.shared.proofs.Commuting.{commuting}
 use Rattle.shared.proofs.Replies.{counter-not-first, counter-refused}
 use Rattle.shared.proofs.Walks.{accepted-when, walk-exactly-when}
 

@@ -2,17 +2,15 @@
 use mathlib.Core.Bool.{Bool, true, false}
 use mathlib.Core.List.{List, [], _∷_}
 use mathlib.Core.Path.{_≡_, refl, sym, ap, ap₂, _∙_, subst}
-use Prim.Native.Nat.{ℕ}
 use Rattle.bits.specs.Choice.{pick}
 use Rattle.bits.proofs.Searches.{never}
 use Rattle.registers.specs.Legal.{legal}
-use Rattle.registers.specs.State.{readCounts}
 use Rattle.shared.specs.declared.Kernel.{Kernel}
 use Rattle.shared.specs.declared.Kernel.the-variants.{First, Second}
 use Rattle.shared.specs.declared.Shared.{Shared}
-use Rattle.shared.specs.Ownership.{ownsP}
 use Rattle.shared.specs.Schedule.{Action, Turn, answerOf, afterAction, afterTurns, same, actionsOf, answersOf, Alike}
-use Rattle.shared.proofs.Actions.{other, alike-counts, Frame, frame-alike, action-kept, action-frame, action-alike}
+use Rattle.shared.specs.Isolation.{other, Frame, Outcome}
+use Rattle.shared.proofs.Actions.{alike-counts, frame-alike, action-kept, action-frame, action-alike}
 
 pub alike-on : (who : Kernel) (s t u : Shared) → Alike who s t → Alike who t u → Alike who s u
 alike-on who s t u f g = record {
@@ -64,12 +62,6 @@ pub turns-kept : (us : List Turn) (s : Shared) → legal (s .state) ≡ true →
 unfolding afterTurns
 turns-kept [] s k = k
 turns-kept (u ∷ us) s k = turns-kept us (afterAction (u .kernel) s (u .action)) (action-kept (u .kernel) s (u .action) k)
-
--- one run's answers and end, beside another's
-pub record Outcome (who : Kernel) (s t : Shared) (us vs : List Turn) : Type 0 where
-  pub answers : answersOf who s us ≡ answersOf who t vs
-  pub after : Alike who (afterTurns s us) (afterTurns t vs)
-  pub counts : (r : ℕ) → ownsP who r ≡ true → readCounts (afterTurns s us .state) r ≡ readCounts (afterTurns t vs .state) r
 
 -- two runs' answers and ends, alike to a kernel
 pub record Course (who : Kernel) (s t : Shared) (us vs : List Turn) : Type 0 where

@@ -31,7 +31,8 @@ use Rattle.machine.specs.Execute.{executeOf}
 use Rattle.machine.specs.Given as Rows
 use Rattle.machine.specs.Given.Given.{illegal as row-4, foreign as row-1, unsupported as row-13, low as row-2, off as row-3, broken as row-14, done as row-0}
 use Rattle.machine.specs.Step as Machine
-use Rattle.machine.proofs.Frame.{Untouched, untouched}
+use Rattle.machine.specs.Frame.{Untouched}
+use Rattle.machine.proofs.Frame.{untouched}
 use Rattle.machine.proofs.Replies as Ordinary
 use Rattle.machine.proofs.Steps.{pick-yes, pick-no}
 use Rattle.walk.specs.Walk.{badRegisters, distance}
@@ -43,8 +44,8 @@ use Rattle.shared.specs.Given.{Given}
 use Rattle.shared.specs.Given.Given.{illegal, foreign, unsupported, low, off, notOwned, done}
 use Rattle.shared.specs.Ownership.{mayNameP, mayName, mayWalk}
 use Rattle.shared.specs.Shared.{flagsFor, stateFor, sharedAfter, replyOf, afterWord, stepOf, refusalOf, walkOf, listOf}
+use Rattle.shared.specs.Isolation.{other}
 use Rattle.shared.proofs.Ways.{left-has, for-legal, step-after, step-illegal, walk-refused, list-refused}
-use Rattle.shared.proofs.Actions.{other}
 use Rattle.shared.proofs.Naming.{first-p}
 use Rattle.shared.proofs.Same.{all-named}
 

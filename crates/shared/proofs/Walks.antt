@@ -24,7 +24,8 @@ use Rattle.walk.specs.Given.{GoodRegisters}
 use Rattle.walk.specs.Given as Walk
 use Rattle.walk.specs.Given.Given.{spent as Row-spent, done as Row-done}
 use Rattle.walk.specs.Walk.{badRegisters, distance}
-use Rattle.walk.proofs.Accepted.{Typed, registers-good}
+use Rattle.walk.specs.Lengths.{Typed}
+use Rattle.walk.proofs.Accepted.{registers-good}
 use Rattle.walk.proofs.Accepted as Ordinary
 use Rattle.walk.proofs.Replies as Ordinary′
 use Rattle.shared.specs.declared.Kernel.{Kernel}

@@ -4,3 +4,4 @@ pub mod Given
 pub mod GivenWalk
 pub mod Schedule
 pub mod Inside
+pub mod Isolation

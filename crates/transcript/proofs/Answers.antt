@@ -14,10 +14,10 @@ use Rattle.replies.specs.declared.Reply.the-variants as R
 use Rattle.registers.specs.declared.State.{State}
 use Rattle.replies.specs.Reply.{numberOf}
 use Rattle.image.specs.declared.Reading.{Reading}
-use Rattle.octets.specs.Bytes.{value, over}
+use Rattle.octets.specs.Bytes.{value, over, AreBytes}
 use Rattle.replies.specs.Reply.{isDone}
 use Rattle.image.specs.Reading.{imageReply, stateOf, wordsOf, countOf, contentOf, wordsAt, blank, readOf, listAfter}
-use Rattle.octets.proofs.Bytes.{AreBytes, length-parts}
+use Rattle.octets.proofs.Bytes.{length-parts}
 use Rattle.replies.proofs.Replies.{number-done}
 use Rattle.image.proofs.RoundTrips.{read-few}
 use Rattle.report.specs.Lines.{imageLine, after, placed}

@@ -26,6 +26,7 @@ use Rattle.words.specs.Words.{sizeOf}
 use Rattle.machine.proofs.Steps.{pick-yes, pick-no}
 use Rattle.walk.specs.Given.{GoodRegisters, Accepted}
 use Rattle.walk.specs.Walk.{badRegisters, distance, refusalOf}
+use Rattle.walk.specs.Lengths.{Typed}
 
 past : (b : Bool) (r x : Reply) → 0 < numberOf r → pick b r x ≡ R.Done → (b ≡ false) × (x ≡ R.Done)
 past true r x h e = absurd (omega (arith, ap numberOf e))
@@ -38,10 +39,6 @@ neither false b e = (refl, e)
 not-false : (b : Bool) → not b ≡ false → b ≡ true
 not-false true e = refl
 not-false false e = sym e
-
--- what the types of a call's arguments say of its state
-pub record Typed (s : State) : Type 0 where
-  pub fits : (i : ℕ) → readX s i < 2 ^ 64
 
 pub x-fits : (s : State) → ((i : ℕ) → Fits w64 (getD (s .x) i 0)) → (i : ℕ) → readX s i < 2 ^ 64
 x-fits s h i = h i .fits

@@ -17,7 +17,8 @@ use Rattle.walk.specs.declared.Walked.{Walked}
 use Rattle.walk.specs.Demand.{Demand3}
 use Rattle.walk.specs.Plain.{Walk, begin}
 use Rattle.walk.specs.Walk.{plainWalk, walked, refusalOf, wholeOf, walkOf}
-use Rattle.walk.proofs.Accepted.{Typed, accepted-within}
+use Rattle.walk.specs.Lengths.{Typed}
+use Rattle.walk.proofs.Accepted.{accepted-within}
 use Rattle.walk.proofs.Demands.{demand3}
 
 module _ (size n m d k budget : ℕ) (s : State) (l : List ℕ) where

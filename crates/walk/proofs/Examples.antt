@@ -1,7 +1,7 @@
 -- Demand 3's hypotheses are met, and the walk is what it says: bytes from 5 to 42 at VL 128, where three vectors are crossed, and at VL 512; and a whole walk of doublewords by computation.
 use mathlib.Core.Bool.{Bool, true, false}
 use mathlib.Core.List.{List, [], _∷_}
-use mathlib.Core.Path.{_≡_, refl, ap}
+use mathlib.Core.Path.{_≡_, refl}
 use Prim.Native.Nat.{ℕ, zero, suc, _+_, _^_, _≤_, _<_}
 use native.Mathlib.Omega.{arith}
 use lib.ListN.{set, replicate, length, getD}
@@ -31,9 +31,10 @@ use Rattle.walk.specs.Given.Given.{illegal, bad, low, off, short, spent,
 use Rattle.walk.specs.Plain.{Walk, run}
 use Rattle.walk.specs.Steps.{IsStep}
 use Rattle.walk.specs.Walk.{instructionAt, plainWalk, positionAt, badRegisters, refusalOf, walkOf, wholeOf}
-use Rattle.walk.proofs.Accepted.{Typed, accepted-when}
+use Rattle.walk.specs.Lengths.{Typed, Wrote}
+use Rattle.walk.proofs.Accepted.{accepted-when}
 use Rattle.walk.proofs.Kept.{walk-counted}
-use Rattle.walk.proofs.Lengths.{Wrote, two-lengths}
+use Rattle.walk.proofs.Lengths.{two-lengths}
 use Rattle.walk.proofs.Replies.{walk-exactly-when}
 use Rattle.walk.proofs.Steps.{walk-steps}
 

@@ -1,7 +1,7 @@
 -- Two vector lengths: a walk's positions hang on start and limit alone. Assumes nothing but what the types of the walks' arguments say.
 use mathlib.Core.List.{List}
 use mathlib.Core.Path.{_≡_, sym, subst, _∙_}
-use Prim.Native.Nat.{ℕ, _+_, _-_, _≤_, _<_}
+use Prim.Native.Nat.{ℕ, _-_, _≤_, _<_}
 use native.Mathlib.Decide.{decLt}
 use native.Mathlib.Omega.{arith}
 use lib.ListN.{length, getD}
@@ -13,16 +13,10 @@ use Rattle.words.specs.Words.{sizeOf}
 use Rattle.walk.specs.Demand.{needed}
 use Rattle.walk.specs.Plain.{Walk}
 use Rattle.walk.specs.Walk.{distance, refusalOf, wholeOf}
-use Rattle.walk.proofs.Accepted.{Typed, accepted-within}
+use Rattle.walk.specs.Lengths.{Typed, Wrote}
+use Rattle.walk.proofs.Accepted.{accepted-within}
 use Rattle.walk.proofs.Answered.{whole-accepted}
 use Rattle.walk.proofs.Demands.{demand3}
-
--- the walk that began with list `l` and came to `w` wrote `start` and the numbers after it at the first `d` places, and nothing else
-pub record Wrote (start d : ℕ) (l : List ℕ) (w : Walk State) : Type 0 where
-  pub visited : w .visited ≡ d
-  pub visits : (i : ℕ) → i < d → getD (w .list) i 0 ≡ start + i
-  pub untouched : (i : ℕ) → d ≤ i → getD (w .list) i 0 ≡ getD l i 0
-  pub places : length (w .list) ≡ length l
 
 -- two such walks leave the same list
 wrote-same : (start d : ℕ) (l : List ℕ) (v w : Walk State) → Wrote start d l v → Wrote start d l w → v .list ≡ w .list

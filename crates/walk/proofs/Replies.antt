@@ -18,7 +18,8 @@ use Rattle.walk.specs.Demand.{Demand3, needed}
 use Rattle.walk.specs.Given.{GoodRegisters, Accepted, Given}
 use Rattle.walk.specs.Given.Given.{illegal, bad, low, off, short, spent, done}
 use Rattle.walk.specs.Walk.{plainWalk, walked, badRegisters, distance, refusalOf, walkOf}
-use Rattle.walk.proofs.Accepted.{Typed, registers-good, refused-4, refused-10, refused-2, refused-3, refused-11, accepted-when, accepted-within}
+use Rattle.walk.specs.Lengths.{Typed}
+use Rattle.walk.proofs.Accepted.{registers-good, refused-4, refused-10, refused-2, refused-3, refused-11, accepted-when, accepted-within}
 use Rattle.walk.proofs.Answered.{answer-accepted, answer-refused}
 use Rattle.walk.proofs.Demands.{demand3}
 

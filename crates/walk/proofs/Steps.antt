@@ -20,7 +20,8 @@ use Rattle.instructions.specs.Ffr.{accepts}
 use Rattle.instructions.specs.Operands.{registersOf}
 use Rattle.machine.specs.Execute.{valuesOf, executeOf}
 use Rattle.machine.specs.Step.{answered}
-use Rattle.machine.proofs.Frame.{SameSettings, untouched}
+use Rattle.machine.specs.Frame.{SameSettings}
+use Rattle.machine.proofs.Frame.{untouched}
 use Rattle.machine.proofs.Replies.{instruction-accepted}
 use Rattle.walk.specs.declared.Phase.{Phase}
 use Rattle.walk.specs.declared.Phase.the-variants as P

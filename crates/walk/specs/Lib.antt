@@ -3,3 +3,4 @@ pub mod Walk
 pub mod Demand
 pub mod Given
 pub mod Steps
+pub mod Lengths

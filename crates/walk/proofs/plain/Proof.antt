@@ -12,7 +12,8 @@ use Rattle.bits.proofs.Sizes.{shift-lt}
 use Rattle.predicates.specs.Predicate.{elements}
 use Rattle.predicates.proofs.ElementBits.{in-bits}
 use Rattle.predicates.proofs.Live.{elements-fit, elements-le}
-use Rattle.walk.proofs.Accepted.{Typed, x-fits, Within, accepted-within}
+use Rattle.walk.specs.Lengths.{Typed}
+use Rattle.walk.proofs.Accepted.{x-fits, Within, accepted-within}
 use Rattle.walk.proofs.Loop.{Between, as-left, bit-at, first-turn, list-kept, once-ended, once-spent, answers, turn-pfalse, turn-whilelo, turn-incp, turn-past, has-place, turn-to}
 use Rattle.walk.proofs.plain.Statement.{statement}
 use Rattle.walk.proofs.plain.Tie as tie

@@ -1,7 +1,8 @@
 -- `walk` meets its contract: what `plain` answers once nothing is refused, and demand 3 of it. Assumes nothing.
 use borrow.Author.Needs.{needs}
 use denote.Ref.{now}
-use Rattle.walk.proofs.Accepted.{Typed, x-fits}
+use Rattle.walk.specs.Lengths.{Typed}
+use Rattle.walk.proofs.Accepted.{x-fits}
 use Rattle.walk.proofs.Answered.{refused, not-refused, accepted}
 use Rattle.walk.proofs.walk.Statement.{statement}
 use Rattle.walk.proofs.walk.Tie as tie

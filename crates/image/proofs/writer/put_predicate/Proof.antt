@@ -4,7 +4,8 @@ use Prim.Native.Nat.{_+_, _*_, _-_, _≤_}
 use native.Mathlib.Omega.{arith}
 use lib.ListN.{length}
 use lib.Seq.{sets}
-use Rattle.predicates.proofs.Words.{Words, words-of}
+use Rattle.predicates.specs.Words.{Words}
+use Rattle.predicates.proofs.Words.{words-of}
 use Rattle.image.specs.Image.{predicateBytes}
 use Rattle.image.proofs.PredicateBytes.{bytesFrom, words-start, words-turn, words-end}
 use borrow.Author.Needs.{needs}

@@ -5,8 +5,9 @@ use native.Mathlib.Omega.{arith}
 use borrow.Author.Needs.{needs}
 use Rattle.bits.specs.Bits.{testBit}
 use Rattle.bits.proofs.Searches.{first-le}
+use Rattle.predicates.specs.Words.{Words}
 use Rattle.predicates.proofs.WordSearch.{lowest-in, first-in, below-zero, below-suc}
-use Rattle.predicates.proofs.Words.{words-of, Words, word}
+use Rattle.predicates.proofs.Words.{words-of, word}
 use Rattle.predicates.proofs.Predicate.lowest.Statement.{statement}
 use Rattle.predicates.proofs.Predicate.lowest.Tie as tie
 
