@@ -2,10 +2,10 @@
 use mathlib.Core.Bool.{Bool, true, false, _&&_}
 use mathlib.Core.List.{List, [], _∷_, _++_}
 use mathlib.Core.Path.{_≡_, refl, ap, _∙_}
-use Prim.Native.Nat.{ℕ, zero, suc, _^_, _<_}
+use Prim.Native.Nat.{ℕ, zero, suc, _^_, _≤_, _<_}
 use native.Mathlib.Omega.{arith}
 use lib.Dec.{ltb, leb, lit<, lit≤}
-use lib.ListN.{getD, replicate, getD-replicate}
+use lib.ListN.{getD, length, replicate, getD-replicate, length-replicate}
 use borrow.Author.Tests.{ltb-true}
 use Rattle.bits.specs.Bits.{testBit, number}
 use Rattle.bits.specs.Search.{some}
@@ -16,15 +16,15 @@ use Rattle.replies.specs.declared.Reply.the-variants as R
 use Rattle.registers.specs.declared.State.{State}
 use Rattle.registers.specs.Legal.{isLength, legal}
 use Rattle.registers.specs.State.{allFalse, ffr, made, readP}
-use Rattle.registers.proofs.Legality.{has-legal, made-counts}
+use Rattle.registers.proofs.Legality.{sized-all, legal-sized, has-legal, made-counts}
 use Rattle.registers.proofs.Registers.{all-length}
 use Rattle.octets.specs.Bytes.{le, value, joined, over, AreBytes}
-use Rattle.image.specs.Sections.{setting, sections, sectionAt, sectionReply, orElse, sectionsReply, startOf, bytesOf}
+use Rattle.image.specs.Sections.{setting, sections, sectionAt, sectionReply, orElse, sectionsReply, startOf, bytesOf, largestImage}
 use Rattle.image.specs.Image.{section, predicateBytes, imageOf}
 use Rattle.image.specs.Reading.{sectionsOf, isOld, imageReply, stateOf, wordsOf, renewed, readOf, listAfter}
 use Rattle.image.specs.Held.{Held}
 use Rattle.image.proofs.Readings.{read-old, ffr-count}
-use Rattle.image.proofs.RoundTrips.{read-written, list-written, written-new, written-read}
+use Rattle.image.proofs.RoundTrips.{read-written, list-written, written-new, written-read, shortest, longest, longest-is}
 
 -- VL 128, level 1, access on, X1 = 10, X2 = 13, all else zero
 abbrev pub state : State
@@ -153,3 +153,19 @@ odd-refused = ffr-count 3 odd earlier (lit≤ tt) (λ e. omega arith) (λ e. ome
     earlier (suc zero) l = refl
     earlier (suc (suc zero)) l = refl
     earlier (suc (suc (suc j))) l = absurd (omega arith)
+
+-- ---- how long images are
+
+pub shortest-image : length (imageOf state []) ≡ 313
+shortest-image = shortest state (sized-all state (legal-sized state lawful)) refl
+
+pub no-longer : length (imageOf state words) ≤ largestImage
+no-longer = longest state words lawful (lit≤ tt)
+
+-- the same registers at 2,048 bits, with 4,096 words
+abbrev widest : State
+widest = made 2048 3 true (state .flags) (state .x) (state .p)
+
+pub longest-image : length (imageOf widest (replicate 4096 0)) ≡ largestImage
+longest-image =
+    longest-is widest (replicate 4096 0) (sized-all widest (record { xs = refl; ps = refl; cs = all-length 2048 (replicate 17 allFalse) refl })) refl (length-replicate {A = ℕ} 4096 0)
