@@ -1,6 +1,7 @@
 // The library as C calls it: include/plokamyr.h declares these functions, and says of each what it answers, in which order it refuses and what it leaves. Replies are numbers.
+ghost use mathlib.Core.List.{map};
 ghost use mathlib.Core.Path.{_≡_};
-ghost use lib.ListN.{length};
+ghost use lib.ListN.{length, replicate};
 ghost use Rattle.replies.specs.declared.Reply.the-variants.{Done};
 ghost use Rattle.replies.specs.Reply.{numberOf};
 ghost use Rattle.registers.specs.State.{counted};
@@ -8,6 +9,8 @@ ghost use Rattle.words.specs.Words.{sizeOf};
 ghost use Rattle.machine.specs.Step.{stepOf};
 ghost use Rattle.walk.specs.Walk.{refusalOf, walkOf, wholeOf};
 ghost use Rattle.walk.specs.Demand.{Demand3};
+ghost use Rattle.fold.specs.Table.{foldUnit};
+ghost use Rattle.fold.specs.Fold.{longest, foldOf, foldReply};
 ghost use Rattle.image.specs.Reading.{readOf, listAfter};
 ghost use Rattle.image.specs.Writing.{writtenOf, bufferAfter};
 ghost use Rattle.transcript.specs.Transcript.{transcriptOf, afterAll, placedAll};
@@ -161,6 +164,17 @@ pub extern "C" fn plokamyr_walk(
         visited: walked.visited,
         state,
     }
+}
+
+// A title folded in place by the walk, at a vector length.
+#[no_mangle]
+pub extern "C" fn plokamyr_fold(title: &mut [u16], vl: u64) -> u32
+    ensures { λ r. ⌜ r ≡ numberOf (foldReply vl (length (now (title .entry)))) ⌝ }
+    ensures { λ _. ⌜ now (title .exit) ≡ foldOf vl (replicate longest 0) (now (title .entry)) ⌝ }
+    ensures { λ r. ⌜ (r ≡ 0 → now (title .exit) ≡ map foldUnit (now (title .entry))) ⌝ }
+{
+    let reply = fold::fold(title, vl);
+    reply.number() as u32
 }
 
 // One instruction word, executed for one of two kernels on a shared state.

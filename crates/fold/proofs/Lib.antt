@@ -1,0 +1,5 @@
+-- Laws of folding that other crates may use.
+pub mod Units
+pub mod Folding
+pub mod Titles
+pub mod Answers

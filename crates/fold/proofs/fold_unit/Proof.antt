@@ -1,0 +1,28 @@
+-- `fold_unit` meets its contract. Assumes nothing.
+use borrow.Author.Needs.{needs}
+use Rattle.bits.specs.Search.{some}
+use Rattle.fold.specs.Table.{foldUnit}
+use Rattle.fold.proofs.Units.{below-a, capital, above-z, past-latin, lettered}
+use Rattle.fold.proofs.fold_unit.Statement.{statement}
+use Rattle.fold.proofs.fold_unit.Tie as tie
+
+returns : tie.Need-returns
+returns c = search (below-a, needs)
+
+returns-2 : tie.Need-returns-2
+returns-2 c = search (capital, needs)
+
+returns-3 : tie.Need-returns-3
+returns-3 c = search (above-z, needs)
+
+returns-4 : tie.Need-returns-4
+returns-4 c = search (past-latin, needs)
+
+-- the array is tested here, place by place
+returns-5 : tie.Need-returns-5
+unfolding some foldUnit
+returns-5 c = search (lettered, needs) depth 6
+
+pub fold-unit-spec : {M : Type 1} → statement M
+fold-unit-spec =
+    tie.close (tie.spec returns (λ c. search needs) returns-2 returns-3 returns-4 (λ c. search needs) (λ c. search needs) (λ c. search needs) returns-5)
