@@ -173,8 +173,8 @@ pub extern "C" fn plokamyr_fold(title: &mut [u16], vl: u64) -> u32
     ensures { λ _. ⌜ now (title .exit) ≡ foldOf vl (replicate longest 0) (now (title .entry)) ⌝ }
     ensures { λ r. ⌜ (r ≡ 0 → now (title .exit) ≡ map foldUnit (now (title .entry))) ⌝ }
 {
-    let reply = fold::fold(title, vl);
-    reply.number() as u32
+    let folded = fold::fold(title, vl);
+    folded.number() as u32
 }
 
 // One instruction word, executed for one of two kernels on a shared state.

@@ -69,13 +69,12 @@ module _ (vl : ℕ) (t l after : List ℕ) (s : State) (r : Walked) where
     done true last e n f =
         let by-walk : last ≡ foldedFirst (titleList vl (length t) l) (titleAnswer vl (length t) l .visited) t =
         f ∙ first-part after t (r .visited) (visited-fits true w e n)
-        ∙ ap (λ (p : List ℕ). foldedFirst p (r .visited) t) list ∙ ap (λ (x : Walked). foldedFirst (titleList vl (length t) l) (x .visited) t) answer in
-        (
+        ∙ ap (λ (p : List ℕ). foldedFirst p (r .visited) t) list ∙ ap (λ (x : Walked). foldedFirst (titleList vl (length t) l) (x .visited) t) answer in (
           answer,
           (
             list,
             by-walk
-            ∙ sym (ap (λ (b : Bool). pick b (foldedFirst (titleList vl (length t) l) (titleAnswer vl (length t) l .visited) t) t) (ap (λ (x : Walked). isDone (x .reply)) (sym answer) ∙ sym e)),
+                ∙ sym (ap (λ (b : Bool). pick b (foldedFirst (titleList vl (length t) l) (titleAnswer vl (length t) l .visited) t) t) (ap (λ (x : Walked). isDone (x .reply)) (sym answer) ∙ sym e)),
           ),
         )
 

@@ -3,3 +3,4 @@ pub mod Units
 pub mod Folding
 pub mod Titles
 pub mod Answers
+pub mod Examples
