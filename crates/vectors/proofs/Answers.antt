@@ -2,11 +2,11 @@
 use mathlib.Core.Bool.{Bool, true, false, not, Bool·beq}
 use mathlib.Core.List.{List, [], _∷_}
 use mathlib.Core.Path.{_≡_, refl, sym, ap, ap₂, _∙_, subst}
-use Prim.Native.Nat.{ℕ, zero, suc, _≤_, _<_}
+use Prim.Native.Nat.{ℕ, zero, suc, _+_, _*_, _≤_, _<_}
 use native.Mathlib.Nat.{le-of-suc-le-suc, not-suc-le-zero}
 use native.Mathlib.Omega.{arith}
 use lib.Dec.{T, eqb}
-use lib.ListN.{length, take, drop, getD, replicate, length-drop}
+use lib.ListN.{length, take, drop, getD, replicate, length-drop, length-replicate}
 use lib.Seq.{take-at}
 use borrow.Author.Tests.{eq-eqb, not-false}
 use Rattle.bits.specs.Choice.{pick}
@@ -23,6 +23,7 @@ use Rattle.predicates.specs.PredTest.{flagsOf}
 use Rattle.shared.specs.declared.Kernel.{Kernel}
 use Rattle.shared.specs.declared.Stepped.{Stepped}
 use Rattle.shared.specs.Shared.{kernelOf, stepOf}
+use Rattle.fold.specs.Fold.{longest, foldOf, foldReply}
 use Rattle.image.specs.declared.Reading.{Reading}
 use Rattle.image.specs.declared.Written.{Written}
 use Rattle.octets.specs.Bytes.{value, parts, over}
@@ -30,7 +31,7 @@ use Rattle.image.specs.Image.{imageOf}
 use Rattle.image.specs.Reading.{imageReply, stateOf, wordsOf, countOf, contentOf, wordsAt, blank, readOf, listAfter}
 use Rattle.image.specs.Writing.{writeReply, writtenOf, bufferAfter}
 use Rattle.octets.proofs.Bytes.{length-parts}
-use Rattle.vectors.specs.Records.{numberAt, block, pastBlock, ranOf, RunAgrees, ImageAgrees, walkedOf, listOf, Walks, unset, WalkAgrees, turnOf, steppedOf, StepAgrees}
+use Rattle.vectors.specs.Records.{numberAt, block, pastBlock, ranOf, RunAgrees, ImageAgrees, walkedOf, listOf, Walks, unset, WalkAgrees, turnOf, steppedOf, StepAgrees, Folds, TitleAgrees}
 
 pub never : {A : Type 0} → false ≡ true → A
 never e = absurd (subst T (sym e) tt)
@@ -219,6 +220,26 @@ step-agrees rest image list filled ws asked end last r st after n word m b room 
       second = ap (λ (x : Stepped). x .shared .second) (sym is) ∙ tfl ∙ efl ∙ ap (λ (l : List ℕ). flagsOf (getD l 3 0)) ea;
       after = ap (λ (x : Stepped). imageOf (x .shared .state) []) (sym is) ∙ h ∙ el ∙ ap block (ee ∙ ap (drop 4) ea);
     }
+
+-- ---- a title
+
+pub title-is : (rest before title after bs end : List ℕ) (vl : ℕ) (r : Reply) (n b : ℕ)
+    → bs ≡ drop 13 rest → title ≡ parts value 2 (length before) bs → vl ≡ numberAt 0 8 rest → r ≡ foldReply vl (length title) → after ≡ foldOf vl (replicate longest 0) title
+    → n ≡ numberOf r → b ≡ getD rest 12 0 → n ≡ b → length after ≡ length before → end ≡ drop (length after * 2 + 13) rest → after ≡ parts value 2 (length after) end
+    → Folds rest (length before)
+title-is rest before title after bs end vl r n b ebs et ev er ea en eb tb same ee h =
+    let is : title ≡ parts value 2 (length before) (drop 13 rest) = et ∙ ap (parts value 2 (length before)) ebs in
+    let long : length title ≡ length before = ap length et ∙ length-parts value 2 (length before) bs in
+    record {
+      reply = sym (ap numberOf (er ∙ ap₂ foldReply ev long)) ∙ sym en ∙ tb ∙ eb;
+      after = sym (ea ∙ ap₂ (λ (v : ℕ) (t : List ℕ). foldOf v (replicate longest 0) t) ev is) ∙ h ∙ ap (λ (k : ℕ). parts value 2 k end) same
+          ∙ ap (parts value 2 (length before)) (ee ∙ ap (λ (k : ℕ). drop (k * 2 + 13) rest) same);
+    }
+
+pub title-agrees : (rest : List ℕ) (units most : ℕ) → units ≡ numberAt 8 4 rest → units ≤ most → Folds rest (length (take units (replicate {A = ℕ} most 0))) → TitleAgrees rest
+title-agrees rest units most eu h f =
+    let long : length (take units (replicate {A = ℕ} most 0)) ≡ numberAt 8 4 rest = ap length (take-replicate units most 0 h) ∙ length-replicate {A = ℕ} units 0 ∙ eu in
+    subst (Folds rest) long f
 
 -- ---- the records left: each has its kind at least
 

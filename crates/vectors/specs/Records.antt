@@ -1,5 +1,5 @@
 -- What a stored record says, and when the library's answer agrees with it. `rest` is a record without its kind and its length.
-use Prim.Native.Nat.{ℕ}
+use Prim.Native.Nat.{ℕ, _+_, _*_}
 use mathlib.Core.List.{List, []}
 use mathlib.Core.Path.{_≡_}
 use lib.Dec.{eqb}
@@ -13,6 +13,7 @@ use Rattle.walk.specs.declared.Walked.{Walked}
 use Rattle.walk.specs.Walk.{walkOf, wholeOf}
 use Rattle.shared.specs.declared.Stepped.{Stepped}
 use Rattle.shared.specs.Shared.{kernelOf, stepOf}
+use Rattle.fold.specs.Fold.{longest, foldOf, foldReply}
 pub use Rattle.octets.specs.Bytes.{numberAt}
 use Rattle.octets.specs.Bytes.{value, parts}
 use Rattle.image.specs.Image.{imageOf}
@@ -89,6 +90,16 @@ pub record StepAgrees (rest : List ℕ) : Type 0 where
   pub second : steppedOf rest .shared .second ≡ flagsOf (getD (pastBlock rest) 3 0)
   pub after : imageOf (steppedOf rest .shared .state) [] ≡ block (drop 4 (pastBlock rest))
 
+-- ---- a title: vl (8), how many units (4), reply (1), the title and the title after (2 bytes a unit)
+
+-- a title of so many units, folded as the record says
+pub record Folds (rest : List ℕ) (units : ℕ) : Type 0 where
+  pub reply : numberOf (foldReply (numberAt 0 8 rest) units) ≡ getD rest 12 0
+  pub after : foldOf (numberAt 0 8 rest) (replicate longest 0) (parts value 2 units (drop 13 rest)) ≡ parts value 2 units (drop (units * 2 + 13) rest)
+
+abbrev pub TitleAgrees : List ℕ → Type 0
+TitleAgrees rest = Folds rest (numberAt 8 4 rest)
+
 -- ---- a record, by its kind
 
 pub record Agrees (kind : ℕ) (rest : List ℕ) : Type 0 where
@@ -96,3 +107,4 @@ pub record Agrees (kind : ℕ) (rest : List ℕ) : Type 0 where
   pub image : kind ≡ 2 → ImageAgrees rest
   pub walk : kind ≡ 3 → WalkAgrees rest
   pub step : kind ≡ 4 → StepAgrees rest
+  pub title : kind ≡ 5 → TitleAgrees rest

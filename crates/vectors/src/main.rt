@@ -8,7 +8,7 @@ ghost use lib.ListN.{length, take, getD};
 ghost use Rattle.octets.specs.Bytes.{value, parts};
 ghost use Rattle.predicates.specs.PredTest.{flagsOf};
 ghost use Rattle.image.specs.Image.{imageOf};
-ghost use Rattle.vectors.specs.Records.{block as blockOf, pastBlock, RunAgrees, ImageAgrees, Walks, WalkAgrees, turnOf, StepAgrees, Agrees};
+ghost use Rattle.vectors.specs.Records.{block as blockOf, pastBlock, RunAgrees, ImageAgrees, Walks, WalkAgrees, turnOf, StepAgrees, Folds, TitleAgrees, Agrees};
 use libc::STDIN_FILENO;
 use libc::STDOUT_FILENO;
 use machine::Machine;
@@ -28,11 +28,15 @@ const WALK: u8 = 3;
 // The image of a state and a word; which of two kernels steps (1 byte: 1 for the second, else 0), the second's flags (1: NZCV), the reply
 // (1), the second's flags after (1), the image of the state after.
 const STEP: u8 = 4;
+// A vector length (8 bytes), how many units a title has (4), the reply (1), the title and the title after, 2 bytes a unit.
+const TITLE: u8 = 5;
 
 // The largest number, which stands in each place of a list before a walk.
 const LARGEST: u64 = 0xFFFF_FFFF_FFFF_FFFF;
 // The most places of a list.
 const PLACES: usize = 512;
+// The most units of a title: one more than may be folded.
+const UNITS: usize = 4097;
 
 // How many records of a kind there were, and how many of them agree.
 struct Score {
@@ -45,6 +49,7 @@ struct Tally {
     images: Score,
     walks: Score,
     steps: Score,
+    titles: Score,
 }
 
 fn main() {
@@ -67,6 +72,8 @@ fn judge(mut bytes: [u8; 900000]) {
     say_score(b"walks ", walks);
     let steps = tally.steps;
     say_score(b"steps ", steps);
+    let titles = tally.titles;
+    say_score(b"titles ", titles);
 }
 
 // The records one after the other, to the end or to the first that is malformed.
@@ -77,6 +84,7 @@ fn compare(bytes: &[u8]) -> Tally {
         images: none,
         walks: none,
         steps: none,
+        titles: none,
     };
     let mut number = 0;
     let mut left = bytes;
@@ -127,12 +135,14 @@ impl Tally {
         let images = self.images;
         let walks = self.walks;
         let steps = self.steps;
+        let titles = self.titles;
         if kind == RUN {
             return Tally {
                 runs: runs.scored(agrees),
                 images,
                 walks,
                 steps,
+                titles,
             };
         }
         if kind == IMAGE {
@@ -141,6 +151,7 @@ impl Tally {
                 images: images.scored(agrees),
                 walks,
                 steps,
+                titles,
             };
         }
         if kind == WALK {
@@ -149,13 +160,24 @@ impl Tally {
                 images,
                 walks: walks.scored(agrees),
                 steps,
+                titles,
+            };
+        }
+        if kind == STEP {
+            return Tally {
+                runs,
+                images,
+                walks,
+                steps: steps.scored(agrees),
+                titles,
             };
         }
         Tally {
             runs,
             images,
             walks,
-            steps: steps.scored(agrees),
+            steps,
+            titles: titles.scored(agrees),
         }
     }
 }
@@ -250,6 +272,9 @@ fn is_whole(kind: u8, record: &[u8]) -> bool {
     if kind == STEP {
         return step_is_whole(rest);
     }
+    if kind == TITLE {
+        return title_is_whole(rest);
+    }
     false
 }
 
@@ -314,6 +339,14 @@ fn step_is_whole(rest: &[u8]) -> bool {
     past_block(end).len() == 0
 }
 
+fn title_is_whole(rest: &[u8]) -> bool {
+    let units = octets::number_at(rest, 8, 4) as usize;
+    if UNITS < units {
+        return false;
+    }
+    rest.len() == units * 4 + 13
+}
+
 // Whether the library answers a record as it says.
 
 fn holds(kind: u8, rest: &[u8]) -> bool
@@ -328,7 +361,10 @@ fn holds(kind: u8, rest: &[u8]) -> bool
     if kind == WALK {
         return walk_agrees(rest);
     }
-    step_agrees(rest)
+    if kind == STEP {
+        return step_agrees(rest);
+    }
+    title_agrees(rest)
 }
 
 fn run_agrees(rest: &[u8]) -> bool
@@ -494,6 +530,57 @@ fn same_flags(a: Flags, b: Flags) -> bool
         return false;
     }
     a.v == b.v
+}
+
+fn title_agrees(rest: &[u8]) -> bool
+    ensures { λ r. ⌜ (r ≡ true → TitleAgrees (now (rest .entry))) ⌝ }
+{
+    let units = octets::number_at(rest, 8, 4) as usize;
+    if UNITS < units {
+        return false;
+    }
+    let mut title = [0u16; 4097];
+    title_is(rest, &mut title[..units])
+}
+
+// Whether the title of a record, which is put in the lent one first, is folded as the record says.
+fn title_is(rest: &[u8], title: &mut [u16]) -> bool
+    requires { ⌜ length (now title) ≤ 4097 ⌝ }
+    ensures { λ r. ⌜ (r ≡ true → Folds (now (rest .entry)) (length (now (title .entry)))) ⌝ }
+{
+    put_units(octets::after(rest, 13), title);
+    let reply = fold::fold(title, octets::number_at(rest, 0, 8));
+    if reply.number() != octets::byte(rest, 12) {
+        return false;
+    }
+    units_are(title, octets::after(rest, title.len() * 2 + 13))
+}
+
+// Puts a unit of two bytes at each place of a title.
+fn put_units(bs: &[u8], title: &mut [u16])
+    requires { ⌜ length (now title) ≤ 4097 ⌝ }
+    ensures { λ _. ⌜ now (title .exit) ≡ parts value 2 (length (now (title .entry))) (now (bs .entry)) ⌝ }
+{
+    let mut i = 0;
+    while i < title.len() {
+        title[i] = octets::number_at(bs, i * 2, 2) as u16;
+        i += 1;
+    }
+}
+
+// Whether a title is these bytes, two for each unit.
+fn units_are(title: &[u16], bs: &[u8]) -> bool
+    requires { ⌜ length (now title) ≤ 4097 ⌝ }
+    ensures { λ r. ⌜ (r ≡ true → now (title .entry) ≡ parts value 2 (length (now (title .entry))) (now (bs .entry))) ⌝ }
+{
+    let mut i = 0;
+    while i < title.len() {
+        if title[i] as u64 != octets::number_at(bs, i * 2, 2) {
+            return false;
+        }
+        i += 1;
+    }
+    true
 }
 
 // Whether the image of a state and words is these bytes.
