@@ -7,7 +7,7 @@ pages=$here/host/cli/pages
 unproved=$here/host/target/unproved
 entries=$here/host/plokamyr/src/ffi.rs
 
-# What the command reads, it can read again: no standard input, and no pipe.
+# Whether the command can read its operands a second time: not standard input, nor a pipe.
 again=yes
 
 # answer WORDS...: answers what needs no library, and ends; returns where the command itself is needed.
@@ -117,11 +117,11 @@ ask_unproved() {
     local kind program status=0
     [ "$again" = yes ] || return 0
     type -P cargo > /dev/null && type -P "${CC:-cc}" > /dev/null && type -P ar > /dev/null || return 0
-    kind=$(machine) && [ -n "$kind" ] || return 0
+    stand_in < /dev/null > /dev/null 2>&1 || return 0
+    kind=$(machine 2> /dev/null) && [ -n "$kind" ] || return 0
     program=$unproved/$kind/debug/plokamyr
     [ -x "$program" ] || say "building what reads the command line first; that takes a few seconds"
-    (stand_in && build_unproved "$kind") < /dev/null > /dev/null 2>&1 || return 0
-    [ -x "$program" ] || return 0
+    build_unproved "$kind" < /dev/null > /dev/null 2>&1 && [ -x "$program" ] || return 0
     "$program" "$@" || status=$?
     [ "$status" = "$asks" ] || exit "$status"
 }
@@ -144,6 +144,5 @@ stand_in() {
 
 # build_unproved MACHINE: as host/command.sh builds the command, in another folder, and not optimized, which is quicker.
 build_unproved() {
-    cd "$here/host" || return
-    PLOKAMYR_LIB=$unproved PLOKAMYR_BUILD="not built" cargo build --offline --quiet -p cli --target "$1" --target-dir target/unproved
+    (cd "$here/host" && PLOKAMYR_LIB=$unproved PLOKAMYR_BUILD="not built" cargo build --offline --quiet -p cli --target "$1" --target-dir target/unproved)
 }
