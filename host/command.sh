@@ -38,6 +38,11 @@ description() {
     echo "commit $commit, kit $proved_by"
 }
 
+# The kind of machine that cargo builds for unless it is told otherwise.
+machine() {
+    (cd "$here/host" && cargo -vV < /dev/null | sed -n 's/^host: //p')
+}
+
 # Cargo has a lock of its own; a compiler's server that it starts must not keep this one. All that a caller's variable or configuration
 # could say otherwise is said: the archive, the kind of machine, and where the command goes.
 run_cargo() {
@@ -52,7 +57,7 @@ build_binary() {
     type -P cargo > /dev/null || fail "the command has to be built first, and cargo is not on the path"
     say "building the command first; that takes about half a minute"
     { mkdir -p "${binary%/*}" && description > "$begun"; } 2> /dev/null || nothing_written host/target
-    machine=$(cd "$here/host" && cargo -vV < /dev/null | sed -n 's/^host: //p')
+    machine=$(machine)
     [ -n "$machine" ] || fail "cargo does not tell for which machine it builds"
     (cd "$here/host" && run_cargo "$machine") < /dev/null >&2 || fail "the command could not be built"
     [ -x "$here/host/target/$machine/release/plokamyr" ] || fail "cargo has built no command"

@@ -1,8 +1,14 @@
 # shellcheck shell=bash disable=SC2154
-# For ./plokamyr where the command is not built: help, and errors in what was typed, from the pages that the command itself prints.
-# 'tests/command --write' keeps those in host/cli/pages.
+# For ./plokamyr where the command is not built: help, and errors in what was typed, without a proof. Names of commands, options and
+# files, and missing operands, need no cargo either: these are told from the pages that the command itself prints, which
+# 'tests/command --write' keeps in host/cli/pages. Values and instructions are read by the command, built without the library.
 
 pages=$here/host/cli/pages
+unproved=$here/host/target/unproved
+entries=$here/host/plokamyr/src/ffi.rs
+
+# Whether the command can read its operands a second time: not standard input, nor a pipe.
+again=yes
 
 # answer WORDS...: answers what needs no library, and ends; returns where the command itself is needed.
 answer() {
@@ -65,7 +71,11 @@ check_words() {
     case ${#operands[@]},$wanted in
     0,[A-Z]*) fail "$wanted is missing (try --help)" ;;
     1,FILE | 1,\[FILE\]) check_file "${operands[0]}" ;;
+    0,\[*) again=no ;; # standard input
     esac
+    for name in "${operands[@]}"; do
+        [[ $name != - && (! -e $name || -f $name) ]] || again=no
+    done
 }
 
 check_file() {
@@ -98,4 +108,41 @@ read_page() {
             wanted=${wanted/ | / or }
         fi
     done < "$1"
+}
+
+# ask_unproved WORDS...: has the command read them, built over a stand-in for the library. It ends where it first asks the library, so
+# that nothing comes out of it that the library would have to compute: what it answers before is what it answers with the library too.
+# Returns if it asks, or cannot be built: then make_ready says what is missing.
+ask_unproved() {
+    local kind program status=0
+    [ "$again" = yes ] || return 0
+    type -P cargo > /dev/null && type -P "${CC:-cc}" > /dev/null && type -P ar > /dev/null || return 0
+    stand_in < /dev/null > /dev/null 2>&1 || return 0
+    kind=$(machine 2> /dev/null) && [ -n "$kind" ] || return 0
+    program=$unproved/$kind/debug/plokamyr
+    [ -x "$program" ] || say "building what reads the command line first; that takes a few seconds"
+    build_unproved "$kind" < /dev/null > /dev/null 2>&1 && [ -x "$program" ] || return 0
+    "$program" "$@" || status=$?
+    [ "$status" = "$asks" ] || exit "$status"
+}
+
+# The status with which the stand-in ends the command, which has none such.
+asks=77
+
+# An archive in which each function that the wrapper calls ends the process, by _exit, so that nothing is written on the way.
+stand_in() {
+    local part=$unproved/part.$$ status=0
+    [ ! -f "$unproved/libcapi.a" ] || [ "$entries" -nt "$unproved/libcapi.a" ] || return 0
+    mkdir -p "$unproved" && {
+        echo 'void _exit(int);'
+        sed -n "s/^ *fn \(plokamyr_[a-z0-9_]*\)(.*/void \1(void) { _exit($asks); }/p" "$entries"
+    } > "$part.c" &&
+        "${CC:-cc}" -c "$part.c" -o "$part.o" && ar rc "$part.a" "$part.o" && mv "$part.a" "$unproved/libcapi.a" || status=1
+    rm -f "$part".*
+    return "$status"
+}
+
+# build_unproved MACHINE: as host/command.sh builds the command, in another folder, and not optimized, which is quicker.
+build_unproved() {
+    (cd "$here/host" && PLOKAMYR_LIB=$unproved PLOKAMYR_BUILD="not built" cargo build --offline --quiet -p cli --target "$1" --target-dir target/unproved)
 }

@@ -29,15 +29,15 @@ pub fn advice(reply: Reply) -> &'static str {
 #[cfg(test)]
 mod tests {
     use super::*;
-    use crate::commands::new::{lengths, levels};
-    use crate::words::grouped;
+    use crate::commands::new::{LENGTHS, LEVELS};
+    use crate::words::{grouped, numbers};
     use plokamyr::{IMAGE_MAX, WORDS_MAX};
 
     #[test]
     fn numbers_are_the_librarys() {
         let has = |reply, text: &str| assert!(advice(reply).contains(text), "{reply}: {text}");
-        has(Reply::IllegalState, &lengths());
-        has(Reply::IllegalState, &levels());
+        has(Reply::IllegalState, &numbers(&LENGTHS));
+        has(Reply::IllegalState, &numbers(&LEVELS));
         has(Reply::NotAllowed, &grouped(WORDS_MAX as u64));
         has(Reply::BufferTooSmall, &grouped(WORDS_MAX as u64));
         has(Reply::BufferTooSmall, &grouped(IMAGE_MAX as u64));

@@ -27,15 +27,30 @@ impl fmt::Display for Fault {
 
 /// The word of one instruction. Letters may be large, and blanks stand between any two parts.
 pub fn assemble(text: &str) -> Result<u32, Fault> {
+    match parse(text)? {
+        Parsed::Word(word) => Ok(word),
+        Parsed::Row(row, name) => encode(row).map_err(|refusal| name.fault(&format!("another instruction: {refusal}"))),
+    }
+}
+
+/// What a text stands for, before the library is asked for its word.
+pub enum Parsed<'a> {
+    Word(u32),
+    /// With the name that the text begins with.
+    Row(Row, Token<'a>),
+}
+
+/// Reads one instruction, without the library.
+pub fn parse(text: &str) -> Result<Parsed<'_>, Fault> {
     let tokens = tokens(text);
     let mnemonic = tokens[0].text.to_ascii_lowercase();
     if mnemonic == DIRECTIVE {
-        return number(&tokens);
+        return number(&tokens).map(Parsed::Word);
     }
     let mut furthest: Option<Fault> = None;
     for syntax in table().iter().filter(|syntax| syntax.mnemonic == mnemonic) {
         match read(syntax, &tokens) {
-            Ok(word) => return Ok(word),
+            Ok(row) => return Ok(Parsed::Row(row, tokens[0])),
             Err(fault) => furthest = Some(further(furthest, fault)),
         }
     }
@@ -69,7 +84,7 @@ const SHOWN: usize = 40;
 
 /// A run of letters, digits, `_` and `.`, or another character that is no blank. The last one is empty, at the text's end.
 #[derive(Clone, Copy, Debug)]
-struct Token<'a> {
+pub struct Token<'a> {
     at: usize,
     text: &'a str,
 }
@@ -143,7 +158,7 @@ fn end(token: &Token) -> Result<(), Fault> {
 }
 
 /// Reads the operands of one way to write an instruction.
-fn read(syntax: &Syntax, tokens: &[Token]) -> Result<u32, Fault> {
+fn read(syntax: &Syntax, tokens: &[Token]) -> Result<Row, Fault> {
     let mut reader = Reader { syntax, tokens, next: 1, fields: [None; 8] };
     for &(name, value) in &syntax.fixed {
         reader.fields[reader.place(name)] = Some(value);
@@ -158,7 +173,7 @@ fn read(syntax: &Syntax, tokens: &[Token]) -> Result<u32, Fault> {
     for &(name, source) in syntax.equal {
         reader.fields[reader.place(name)] = reader.fields[reader.place(source)];
     }
-    reader.word()
+    Ok(Row { form: syntax.form, fields: reader.fields.map(|field| field.unwrap_or(0)) })
 }
 
 struct Reader<'a> {
@@ -177,12 +192,6 @@ impl<'a> Reader<'a> {
     fn place(&self, name: Field) -> usize {
         let names = self.syntax.form.field_names();
         names.iter().position(|known| *known == name).expect("the table names fields that the form has")
-    }
-
-    fn word(&self) -> Result<u32, Fault> {
-        let fields = self.fields.map(|field| field.unwrap_or(0));
-        let row = Row { form: self.syntax.form, fields };
-        encode(row).map_err(|refusal| self.tokens[0].fault(&format!("another instruction: {refusal}")))
     }
 
     fn operand(&mut self, operand: &Operand) -> Result<(), Fault> {

@@ -1,6 +1,7 @@
 //! The command `plokamyr`: it shows and converts, and every meaning comes from the proved library.
 //!
-//! `syntax` has the text of instructions in one table, `help` the commands in another. `commands` has a module for each.
+//! `syntax` has the text of instructions in one table, `help` the commands in another. `commands` has a module for each, which
+//! reads all that is typed before it first asks the library: host/usage.sh has errors told without one.
 
 mod advice;
 mod args;

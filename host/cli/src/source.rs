@@ -1,6 +1,6 @@
 //! Text with an instruction in each line.
 
-use crate::assemble::{assemble, Fault};
+use crate::assemble::{assemble, parse, Fault};
 use crate::style::Style;
 use crate::words::{is_invisible, plain};
 
@@ -20,15 +20,26 @@ pub type Problems = Vec<Problem>;
 const MOST: usize = 10;
 
 /// The words of a text. A line has one instruction or more, with `;` between them, or none; `//` begins a comment up to the
-/// line's end, and one between `/*` and `*/` may go over lines.
+/// line's end, and one between `/*` and `*/` may go over lines. The whole text is read before the library is asked for a word.
 pub fn words(source: &str) -> Result<Vec<u32>, Problems> {
-    let (mut words, mut problems) = (Vec::new(), Vec::new());
+    instructions(source)?;
+    each(source, assemble)
+}
+
+/// How many instructions a text has, without the library.
+pub fn instructions(source: &str) -> Result<usize, Problems> {
+    each(source, |statement| parse(statement).map(|_| ())).map(|all| all.len())
+}
+
+/// What each instruction of a text is read as.
+fn each<T>(source: &str, read: impl Fn(&str) -> Result<T, Fault>) -> Result<Vec<T>, Problems> {
+    let (mut all, mut problems) = (Vec::new(), Vec::new());
     let (bare, open) = without_comments(source);
     let lines = source.split('\n').zip(bare.split('\n'));
     for (number, (line, bare)) in (1..).zip(lines) {
         for (start, statement) in statements(bare) {
-            match assemble(statement) {
-                Ok(word) => words.push(word),
+            match read(statement) {
+                Ok(one) => all.push(one),
                 Err(fault) => problems.push(Problem::new(number, line, Fault { at: start + fault.at, ..fault })),
             }
             if problems.len() == MOST {
@@ -38,7 +49,7 @@ pub fn words(source: &str) -> Result<Vec<u32>, Problems> {
     }
     problems.extend(open.map(|at| unclosed(source, at)));
     if problems.is_empty() {
-        Ok(words)
+        Ok(all)
     } else {
         Err(problems)
     }

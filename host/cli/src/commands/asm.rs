@@ -2,7 +2,7 @@ use crate::args::Args;
 use crate::assemble::{begins_any, begins_instruction};
 use crate::failure::{Failure, Outcome, DONE, FAILED};
 use crate::image::{contents, named, text};
-use crate::source::{report, words};
+use crate::source::{instructions, report, words, Problems};
 use crate::style::Style;
 use crate::words::grouped;
 use std::io;
@@ -20,8 +20,16 @@ pub fn command(args: &Args, _: Style) -> Result<Outcome, Failure> {
 
 /// The words of a source called `name`.
 pub fn assembled(name: &str, source: &str) -> Result<Vec<u32>, Failure> {
-    let style = Style::of(&io::stderr());
-    words(source).map_err(|problems| Failure { text: report(name, &problems, style), status: FAILED, json: None })
+    words(source).map_err(|problems| reported(name, &problems))
+}
+
+/// How many words it has, without the library.
+pub fn length(name: &str, source: &str) -> Result<usize, Failure> {
+    instructions(source).map_err(|problems| reported(name, &problems))
+}
+
+fn reported(name: &str, problems: &Problems) -> Failure {
+    Failure { text: report(name, problems, Style::of(&io::stderr())), status: FAILED, json: None }
 }
 
 /// One word that ends in `.s` names a file, which no instruction does; what begins no instruction names one if it is there;
@@ -47,7 +55,7 @@ pub fn source(path: &str) -> Result<String, Failure> {
 fn of_texts(texts: &[String]) -> Result<Vec<u32>, Failure> {
     let lines = joined(texts);
     for (place, line) in (1..).zip(&lines) {
-        if words(line).is_ok_and(|words| words.is_empty()) {
+        if instructions(line) == Ok(0) {
             return Err(format!("text {place} is '{line}': an instruction would do (try --help)").into());
         }
     }

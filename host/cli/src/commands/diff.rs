@@ -2,14 +2,17 @@ use crate::args::Args;
 use crate::change::{changes, Change, View};
 use crate::commands::dis;
 use crate::failure::{Failure, Outcome, DONE, REFUSED};
-use crate::image::load;
+use crate::image::{accepted, bytes};
 use crate::json::Json;
 use crate::style::Style;
 
 pub fn command(args: &Args, style: Style) -> Result<Outcome, Failure> {
     let (one, other) = match args.operands.as_slice() {
         [one, other] if one == "-" && other == "-" => return Err("standard input has one image (try --help)".into()),
-        [one, other] => (load(one)?, load(other)?),
+        [one, other] => {
+            let read = [bytes(one)?, bytes(other)?]; // both, before the library is asked
+            (accepted(one, &read[0])?, accepted(other, &read[1])?)
+        }
         _ => return Err("two images are compared (try --help)".into()),
     };
     let registers = changes(&one.state, &other.state, View::Elements(0));

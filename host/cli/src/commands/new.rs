@@ -1,5 +1,5 @@
 use crate::args::Args;
-use crate::commands::asm::{assembled, source};
+use crate::commands::asm::{assembled, length, source};
 use crate::failure::{why, Failure, Outcome, DONE};
 use crate::image::named;
 use crate::lanes::{elements, predicate, size_of};
@@ -13,11 +13,12 @@ use std::path::{Path, PathBuf};
 
 pub fn command(args: &Args, _: Style) -> Result<Outcome, Failure> {
     let path = args.value("o").ok_or("-o FILE is missing: where to write the image")?;
-    let state = state(args)?;
+    let (mut state, p) = state(args)?;
     let words = match args.operands.as_slice() {
         [] => Vec::new(),
         _ => kernel(super::only(args, "KERNEL")?, path)?,
     };
+    state.set_all_p(p); // asks the library, so that it comes after all that is typed has been read
     let mut image = vec![0; IMAGE_MAX];
     let written = write(&state, &words, &mut image);
     match written.reply {
@@ -38,40 +39,44 @@ fn kernel(path: &str, image: &str) -> Result<Vec<u32>, Failure> {
         let image = if image == "-" { "standard output" } else { image };
         return Err(format!("-o is {image}: another file than the kernel would do").into());
     }
-    let source = source(path)?;
-    let words = match list::is_list(&source) {
-        true => list::words(&named(path), &source)?,
-        false => assembled(&named(path), &source)?,
-    };
-    if words.len() > WORDS_MAX {
-        let most = grouped(WORDS_MAX as u64);
-        return Err(
-            format!("{} has {}: an image holds {most}", named(path), counted(words.len() as u64, "word")).into()
-        );
+    let (name, source) = (named(path), source(path)?);
+    if list::is_list(&source) {
+        let words = list::words(&name, &source)?;
+        return fits(&name, words.len()).map(|()| words);
     }
-    Ok(words)
+    fits(&name, length(&name, &source)?)?;
+    assembled(&name, &source)
 }
 
-fn state(args: &Args) -> Result<State, Failure> {
-    let vl = args.value("vl").ok_or_else(|| format!("--vl BITS is missing: {} would do", lengths()))?;
-    let vl = allowed("--vl", vl, &lengths(), |vl| State::new(vl, 0))?;
-    let level =
-        allowed("--level", args.value("level").unwrap_or("3"), &levels(), |level| State::new(128, byte(level)))?;
-    let mut state = State::new(vl, byte(level));
+fn fits(name: &str, words: usize) -> Result<(), Failure> {
+    if words > WORDS_MAX {
+        let most = grouped(WORDS_MAX as u64);
+        return Err(format!("{name} has {}: an image holds {most}", counted(words as u64, "word")).into());
+    }
+    Ok(())
+}
+
+/// The state but for P0 to P15, and these: to set them is to ask the library.
+fn state(args: &Args) -> Result<(State, [Predicate; 16]), Failure> {
+    let vl = args.value("vl").ok_or_else(|| format!("--vl BITS is missing: {} would do", numbers(&LENGTHS)))?;
+    let vl = allowed("--vl", vl, &LENGTHS)?;
+    let level = allowed("--level", args.value("level").unwrap_or("3"), &LEVELS)?;
+    let mut state = State::new(u64::from(vl), level as u8);
+    let mut p = *state.p();
     state.access = !args.has("no-access");
     for (number, value) in once("X", args.values("x").into_iter().map(general))? {
         state.x[number] = value;
     }
-    for (number, value) in once("P", args.values("p").into_iter().map(|text| lanes_of(text, vl)))? {
-        state.set_p(number, value);
+    for (number, value) in once("P", args.values("p").into_iter().map(|text| lanes_of(text, state.vl())))? {
+        p[number] = value;
     }
     if let Some(text) = args.value("ffr") {
-        state.ffr = true_lanes("--ffr", text, vl, 0)?;
+        state.ffr = true_lanes("--ffr", text, state.vl(), 0)?;
     }
     if let Some(text) = args.value("nzcv") {
         state.flags = flags(text)?;
     }
-    Ok(state)
+    Ok((state, p))
 }
 
 /// What registers are given, each at most once.
@@ -87,31 +92,16 @@ fn once<T>(name: &str, given: impl Iterator<Item = Result<(usize, T), Failure>>)
     Ok(all)
 }
 
-/// A level; one past a byte is as little allowed as the highest.
-fn byte(level: u64) -> u8 {
-    level.min(255) as u8
-}
-
-/// Whether the library takes a state.
-fn is_legal(state: State) -> bool {
-    let mut state = state;
-    state.run(&[]).reply == Reply::Done
-}
-
-/// The vector lengths that the library takes.
-pub fn lengths() -> String {
-    numbers(&(0..=4096).filter(|vl| is_legal(State::new(u64::from(*vl), 0))).collect::<Vec<_>>())
-}
+/// The vector lengths that the library takes. They are known here, as the levels are, so that what is typed is read without it.
+pub const LENGTHS: [u32; 5] = [128, 256, 512, 1024, 2048];
 
 /// The levels that it takes.
-pub fn levels() -> String {
-    numbers(&(0..=255).filter(|level| is_legal(State::new(128, *level as u8))).collect::<Vec<_>>())
-}
+pub const LEVELS: [u32; 4] = [0, 1, 2, 3];
 
-/// A setting that the library allows.
-fn allowed(name: &str, text: &str, would_do: &str, state: impl Fn(u64) -> State) -> Result<u64, Failure> {
-    let value = natural(text).filter(|value| is_legal(state(*value)));
-    value.ok_or_else(|| format!("{name} is '{text}': {would_do} would do").into())
+/// A setting that is one of these.
+fn allowed(name: &str, text: &str, settings: &[u32]) -> Result<u32, Failure> {
+    let value = natural(text).and_then(|value| settings.iter().find(|known| u64::from(**known) == value));
+    value.copied().ok_or_else(|| format!("{name} is '{text}': {} would do", numbers(settings)).into())
 }
 
 /// `1=64` or `x1=64`.
@@ -168,5 +158,19 @@ fn flags(text: &str) -> Result<Flags, Failure> {
     match bits.as_slice() {
         &[n, z, c, v] if text.chars().all(|bit| bit == '0' || bit == '1') => Ok(Flags { n, z, c, v }),
         _ => Err(format!("--nzcv is '{text}': four digits 0 or 1 would do, as 1010").into()),
+    }
+}
+
+#[cfg(test)]
+mod tests {
+    use super::*;
+
+    #[test]
+    fn settings_are_the_librarys() {
+        let is_legal = |mut state: State| state.run(&[]).reply == Reply::Done;
+        let lengths = (0..=4096).filter(|vl| is_legal(State::new(u64::from(*vl), 0)));
+        assert_eq!(lengths.collect::<Vec<_>>(), LENGTHS);
+        let levels = (0..=255).filter(|level| is_legal(State::new(128, *level as u8)));
+        assert_eq!(levels.collect::<Vec<_>>(), LEVELS);
     }
 }
