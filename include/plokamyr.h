@@ -8,7 +8,7 @@
  *     the counts of sixteen;
  *   - what is lent to one call does not overlap;
  *   - a bool is 0 or 1;
- *   - there are 32 KB of stack.
+ *   - there are 48 KB of stack; all functions but plokamyr_fold do with 32 KB.
  * A refusal carries its number and leaves every lent state and buffer as it was; PLOKAMYR_BUDGET_SPENT alone keeps the positions written so far.
  * A run that comes to a refused word is not refused itself: it stops there, and what the words before it did stays.
  * No function keeps a pointer, allocates, or has state of its own: calls from several threads do not meet.
@@ -25,8 +25,8 @@ extern "C" {
 #endif
 
 /* The version: major * 10000 + minor * 100 + patch, and as text. CHANGELOG.md says what came with each. */
-#define PLOKAMYR_VERSION 900
-#define PLOKAMYR_VERSION_TEXT "0.9.0"
+#define PLOKAMYR_VERSION 1000
+#define PLOKAMYR_VERSION_TEXT "0.10.0"
 
 /* The number of the layout: of the structs below, and of what each function is handed. It goes up with any change of these. */
 #define PLOKAMYR_LAYOUT 3
@@ -59,7 +59,7 @@ enum plokamyr_reply {
     PLOKAMYR_BUFFER_TOO_SMALL = 8,
     PLOKAMYR_FIELD_PAST_RANGE = 9,    /* of an instruction to be written; also for SEL with S = 1 */
     PLOKAMYR_BAD_WALK_REGISTERS = 10, /* X past 31, P past 15, size past 3, n = 31, n = m, or d = k */
-    PLOKAMYR_LIST_TOO_SHORT = 11,     /* fewer places than positions to visit */
+    PLOKAMYR_LIST_TOO_SHORT = 11,     /* fewer places than positions to visit; also for a title of more than 4,096 units */
     PLOKAMYR_BUDGET_SPENT = 12,       /* the walk has not ended */
     PLOKAMYR_UNSUPPORTED_FORM = 13,   /* bits 31:24 of the word are 00100101, but its form is none of ours; also for SEL with S = 1 */
     PLOKAMYR_NOT_MONOTONIC = 14,      /* WRFFR's Pn is not a run of ones from bit 0 */
@@ -157,6 +157,18 @@ struct plokamyr_walked {
  * the walk ends exactly if budget is at least D + 3R + 2. Refusals, the first that applies: 4, 10, 2 (level 0), 3, 11, 12. */
 struct plokamyr_walked plokamyr_walk(struct plokamyr_state state, uint32_t size, uint32_t n, uint32_t m, uint32_t d, uint32_t k,
                                      uint64_t *list, size_t places, uint64_t budget);
+
+/* ---- titles ---- */
+
+/* The most units that a title has. */
+#define PLOKAMYR_TITLE_MAX 4096
+
+/* Folds a title where it stands: a walk of halfwords lists the positions of its units, each of 16 bits, and the unit at each is folded, once.
+ * A to Z become small. The letters of Latin-1 that have an accent become the letter without it, small too: in hex, C0 to C5, E0 to E5 a, C7, E7 c,
+ * C8 to CB, E8 to EB e, CC to CF, EC to EF i, D1, F1 n, D2 to D6, F2 to F6 o, D9 to DC, F9 to FC u, DD, FD, FF y. All else stays, and so does
+ * every unit from 100 on. The title comes out the same at every vector length, vl, and a second folding changes nothing.
+ * Refusals: 4 (vl is none of the five), then 11 (more than PLOKAMYR_TITLE_MAX units). */
+enum plokamyr_reply plokamyr_fold(uint16_t *title, size_t units, uint64_t vl);
 
 /* ---- two kernels on one register file ---- */
 

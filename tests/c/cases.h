@@ -29,6 +29,22 @@ static const uint32_t foreign[FOREIGN] = {0,          0xFFFFFFFF, 0x24FFFFFF, 0x
 enum { UNSUPPORTED = 6 };
 static const uint32_t unsupported[UNSUPPORTED] = {0x25000000, 0x25FFFFFF, 0x2518E410, 0x2519C410, 0x25104441, SEL | SETS_FLAGS};
 
+/* Words of every form, one after the other. The four after PFALSE are predicate logic: without flags, and with them all but SEL, in three parts.
+ * Each WRFFR takes what the WHILE of bytes before it leaves, in p9. */
+enum { KINDS = 23 };
+
+static inline uint32_t word_at(uint64_t at) {
+    static const uint32_t fixed[KINDS] = {0x25200000, 0x25205010, 0x25204010, 0x25288800, 0x25288C00, 0x252C8800,
+                                          0x252D8800, 0x25208000, 0x25208200, 0x2519C400, 0x2558C000, 0x2550C000,
+                                          0x2518E400, 0x25004000, 0x25C04000, 0x25404000, 0x25404200, SETFFR,
+                                          0x25200409, WRFFR | 9 << 5, RDFFR, RDFFR_PG, RDFFRS_PG};
+    static const uint32_t drawn[KINDS] = {0x00DF1FFF, 0x00DF0FEF, 0x00DF2FEF, 0x00C301FF, 0x00C301FF, 0x00C001FF,
+                                          0x00C001FF, 0x00C03DFF, 0x00C005FF, 0x00C001EF, 0x000001EF, 0x00003DE0,
+                                          0x0000000F, 0x008F3FFF, 0x000F3FFF, 0x000F3DFF, 0x000F3DEF, 0,
+                                          0x001F1BF0, 0,          0x0000000F, 0x000001EF, 0x000001EF};
+    return fixed[at % KINDS] | ((uint32_t)mixed(at + 2) & drawn[at % KINDS]);
+}
+
 /* ---- illegal states */
 
 enum { ILLEGAL = 44 };

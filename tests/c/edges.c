@@ -26,25 +26,15 @@ static void step_refusals(void) {
     }
 }
 
-/* Words of every form, one after the other from states of every length. The four after PFALSE are predicate logic: without flags,
- * and with them all but SEL, in three parts. Each WRFFR takes what the WHILE of bytes before it leaves, in p9. */
+/* Words of every form, one after the other from states of every length. */
 static void steps_agree(void) {
-    enum { KINDS = 23 };
-    static const uint32_t fixed[KINDS] = {0x25200000, 0x25205010, 0x25204010, 0x25288800, 0x25288C00, 0x252C8800,
-                                          0x252D8800, 0x25208000, 0x25208200, 0x2519C400, 0x2558C000, 0x2550C000,
-                                          0x2518E400, 0x25004000, 0x25C04000, 0x25404000, 0x25404200, SETFFR,
-                                          0x25200409, WRFFR | 9 << 5, RDFFR, RDFFR_PG, RDFFRS_PG};
-    static const uint32_t drawn[KINDS] = {0x00DF1FFF, 0x00DF0FEF, 0x00DF2FEF, 0x00C301FF, 0x00C301FF, 0x00C001FF,
-                                          0x00C001FF, 0x00C03DFF, 0x00C005FF, 0x00C001EF, 0x000001EF, 0x00003DE0,
-                                          0x0000000F, 0x008F3FFF, 0x000F3FFF, 0x000F3DFF, 0x000F3DEF, 0,
-                                          0x001F1BF0, 0,          0x0000000F, 0x000001EF, 0x000001EF};
     for (int i = 0; i < 5; i++) {
         struct plokamyr_state s = sample(lengths[i]);
         for (uint64_t at = 0; at < KINDS * 40; at++) {
             s.x[at % 31] = mixed(at) % 300; /* small, so that a WHILE may end within the vector */
             if (at % KINDS != 19) s.p[at % 16].words[0] |= mixed(at + 1) & live(lengths[i], 0); /* PFALSE must not leave all empty */
             s = recounted(s);
-            s = both_steps(&s, fixed[at % KINDS] | ((uint32_t)mixed(at + 2) & drawn[at % KINDS]), PLOKAMYR_DONE);
+            s = both_steps(&s, word_at(at), PLOKAMYR_DONE);
         }
     }
 }

@@ -38,6 +38,10 @@ struct plokamyr_walked plokamyr_walk(struct plokamyr_state state, uint32_t size,
     return (struct plokamyr_walked){numbered(size), budget, places, state};
 }
 
+enum plokamyr_reply plokamyr_fold(uint16_t *title, size_t units, uint64_t vl) {
+    return numbered((uint32_t)vl);
+}
+
 struct plokamyr_shared_stepped plokamyr_shared_step(struct plokamyr_shared shared, bool second, uint32_t word) {
     return (struct plokamyr_shared_stepped){numbered(word), shared};
 }

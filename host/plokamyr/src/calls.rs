@@ -37,6 +37,33 @@ pub fn walk(state: &State, size: u32, n: u32, m: u32, d: u32, k: u32, list: &mut
     Walked { reply, count, visited, state }
 }
 
+/// The most units that a title has.
+pub const TITLE_MAX: usize = 4096;
+
+/// Folds a title where it stands: a walk of halfwords lists the positions of its units, and the unit at each is folded, once.
+/// A to Z become small. Of the letters with accents in Latin-1 ÀÁÂÃÄÅ and àáâãäå become a, Çç c, ÈÉÊË and èéêë e, ÌÍÎÏ and
+/// ìíîï i, Ññ n, ÒÓÔÕÖ and òóôõö o, ÙÚÛÜ and ùúûü u, Ýýÿ y. All else stays, and so does every unit from 256 on: what was
+/// UTF-16 still is.
+///
+/// The title comes out the same at every vector length, `vl`, and a second folding changes nothing. Titles do not depend on
+/// each other.
+///
+/// Refusals, which leave the title as it was, the first that applies: 4 (`vl` is none of the five), 11 (more than
+/// [`TITLE_MAX`] units).
+///
+/// ```
+/// use plokamyr::{fold, Reply, TITLE_MAX};
+///
+/// let mut title: Vec<u16> = "Ça Ira, Œuvre Nº 7".encode_utf16().collect();
+/// assert_eq!(fold(&mut title, 512), Reply::Done);
+/// assert_eq!(String::from_utf16_lossy(&title), "ca ira, Œuvre nº 7");
+/// assert_eq!(fold(&mut title, 100), Reply::IllegalState);
+/// assert_eq!(fold(&mut [0x41; TITLE_MAX + 1], 512), Reply::ListTooShort);
+/// ```
+pub fn fold(title: &mut [u16], vl: u64) -> Reply {
+    ffi::fold(title, vl)
+}
+
 /// The most words that an image holds.
 pub const WORDS_MAX: usize = 4096;
 /// The most bytes that an image has.

@@ -118,6 +118,7 @@ extern "C" {
         places: usize,
         budget: u64,
     ) -> Walked;
+    fn plokamyr_fold(title: *mut u16, units: usize, vl: u64) -> Number;
     fn plokamyr_shared_step(shared: Shared, second: bool, word: u32) -> SharedStepped;
     fn plokamyr_shared_walk(
         shared: Shared,
@@ -195,6 +196,13 @@ pub fn walk(state: &State, route: Route, list: &mut [u64], budget: u64) -> Walke
     let (places, length) = (list.as_mut_ptr(), list.len());
     // SAFETY: the list is lent for writing, for its length and for this call alone; the state is a copy.
     unsafe { plokamyr_walk(state.clone(), size, n, m, d, k, places, length, budget) }
+}
+
+pub fn fold(title: &mut [u16], vl: u64) -> Reply {
+    bind();
+    let (units, length) = (title.as_mut_ptr(), title.len());
+    // SAFETY: the title is lent for writing, for its length and for this call alone.
+    Reply::from_number(unsafe { plokamyr_fold(units, length, vl) })
 }
 
 /// What C is told of a kernel.

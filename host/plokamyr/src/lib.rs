@@ -34,7 +34,8 @@ mod row;
 mod shared;
 mod state;
 
-pub use calls::{read, text, text_in, walk, write, Reading, Walked, Written, IMAGE_MAX, TEXT_MAX, WORDS_MAX};
+pub use calls::{fold, read, text, text_in, walk, write, Reading, Walked, Written};
+pub use calls::{IMAGE_MAX, TEXT_MAX, TITLE_MAX, WORDS_MAX};
 pub use reply::Reply;
 pub use row::{decode, encode, Form, Row};
 pub use shared::{Kernel, Shared, SharedWalked};

@@ -56,7 +56,7 @@ pub enum Reply {
     FieldPastRange,
     /// 10: an X past 31, a P past 15, a size past 3, n = 31, n = m, or d = k.
     BadWalkRegisters,
-    /// 11: the list has fewer places than there are positions to visit.
+    /// 11: the list has fewer places than there are positions to visit, or a title has more than 4,096 units.
     ListTooShort,
     /// 12: the walk has not ended. The only refusal that keeps the work done so far.
     BudgetSpent,

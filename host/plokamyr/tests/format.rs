@@ -1,7 +1,8 @@
 //! What `docs/FORMAT.md` says in tables and hex, held to the library and to an example.
 
 use plokamyr::{
-    encode, read, text, write, Form, Kernel, Predicate, Reply, Row, Shared, State, IMAGE_MAX, TEXT_MAX, WORDS_MAX,
+    encode, fold, read, text, write, Form, Kernel, Predicate, Reply, Row, Shared, State, IMAGE_MAX, TEXT_MAX,
+    TITLE_MAX, WORDS_MAX,
 };
 use std::fs;
 use std::ops::RangeInclusive;
@@ -155,6 +156,35 @@ fn words() {
             assert_eq!(State::new(128, level - 1).step(word), Reply::LevelTooLow, "{form:?}");
         }
     }
+}
+
+/// A number in hex, after which something else may stand.
+fn hex(text: &str) -> u16 {
+    u16::from_str_radix(text.split(' ').next().expect("a number"), 16).expect("a number in hex")
+}
+
+/// The units of a cell, as `C0 to C5, E0 to E5` or `C7, E7`.
+fn ranges(cell: &str) -> Vec<RangeInclusive<u16>> {
+    cell.split(", ").map(|range| hex(range)..=hex(range.split(" to ").nth(1).unwrap_or(range))).collect()
+}
+
+/// The table of titles: every unit becomes what its row says, and stays if it has none.
+#[test]
+fn titles() {
+    let section = section("Titles");
+    let rows = section.lines().filter(|line| line.starts_with("| ")).skip(1);
+    let rows: Vec<_> =
+        rows.map(|row| row.trim_matches(&['|', ' '][..]).split_once(" | ").expect("two cells")).collect();
+    let becomes = |unit: u16| match rows.iter().find(|row| ranges(row.0).iter().any(|range| range.contains(&unit))) {
+        Some((_, letter)) => letter.strip_prefix("itself + ").map_or_else(|| hex(letter), |more| unit + hex(more)),
+        None => unit,
+    };
+    for first in (0..=u16::MAX).step_by(TITLE_MAX) {
+        let mut title: Vec<u16> = (first..=first + (TITLE_MAX as u16 - 1)).collect();
+        let wanted: Vec<u16> = title.iter().copied().map(becomes).collect();
+        assert_eq!((fold(&mut title, 512), title), (Reply::Done, wanted));
+    }
+    assert!(section.contains(&format!("at most {} units", grouped(TITLE_MAX))));
 }
 
 /// A bit of the result, from Pg, Pn and Pm.

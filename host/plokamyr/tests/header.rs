@@ -1,7 +1,7 @@
 //! The numbers here are those of `include/plokamyr.h`, read from it. `PLOKAMYR_INCLUDE` is its folder if it lies elsewhere.
 //! The version is that of the workspace, from which the command and `./install` have it.
 
-use plokamyr::{Form, Reply, Shared, State, IMAGE_MAX, TEXT_MAX, WORDS_MAX};
+use plokamyr::{Form, Reply, Shared, State, IMAGE_MAX, TEXT_MAX, TITLE_MAX, WORDS_MAX};
 use std::mem::size_of;
 use std::path::PathBuf;
 use std::{env, fs};
@@ -87,6 +87,7 @@ fn constants() {
     assert_eq!(constant(&header, "PLOKAMYR_WORDS_MAX"), WORDS_MAX);
     assert_eq!(constant(&header, "PLOKAMYR_IMAGE_MAX"), IMAGE_MAX);
     assert_eq!(constant(&header, "PLOKAMYR_TEXT_MAX"), TEXT_MAX);
+    assert_eq!(constant(&header, "PLOKAMYR_TITLE_MAX"), TITLE_MAX);
     assert_eq!(constant(&header, "PLOKAMYR_ROW"), 1 + 8);
 }
 

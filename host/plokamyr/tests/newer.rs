@@ -1,7 +1,7 @@
 //! The wrapper over a library that is newer than it. `tests/newer/run` links one that answers with the numbers that it is
 //! told, and runs these; over any other they mean nothing.
 
-use plokamyr::{decode, encode, read, text, walk, write, Form, Kernel, Predicate, Reply, Row, Shared, State};
+use plokamyr::{decode, encode, fold, read, text, walk, write, Form, Kernel, Predicate, Reply, Row, Shared, State};
 
 /// Every number that has a name here, and some that have none.
 fn numbers() -> impl Iterator<Item = u32> {
@@ -25,6 +25,7 @@ fn a_reply_is_handed_on() {
         expect(ran.reply, number);
         expect(ran.refused, !number);
         expect(walk(&state, number, 1, 2, 3, 4, &mut [], 0).reply, number);
+        expect(fold(&mut [], number.into()), number);
         expect(read(&number.to_le_bytes(), &mut []).reply, number);
         expect(write(&state, &[number], &mut []).reply, number);
     }
