@@ -1,12 +1,12 @@
 -- The theorems' hypotheses are met: titles of no unit, of one vector and a unit, and with every row of the table, at VL 128; and the last at VL 2,048 too.
 use mathlib.Core.List.{List, [], _∷_}
-use mathlib.Core.Path.{_≡_, refl, sym, _∙_}
+use mathlib.Core.Path.{_≡_, refl, _∙_}
 use native.Mathlib.Omega.{arith}
 use Prim.Native.Nat.{ℕ}
 use lib.ListN.{length, replicate}
 use Rattle.registers.specs.Legal.{isLength}
 use Rattle.fold.specs.Table.{foldUnit}
-use Rattle.fold.specs.Fold.{longest, titleAnswer, foldOf}
+use Rattle.fold.specs.Fold.{longest, foldOf}
 use Rattle.fold.proofs.Titles.{fold-table, fold-any-list, fold-lengths, fold-twice}
 
 abbrev places : List ℕ

@@ -2,18 +2,15 @@
 use mathlib.Core.Bool.{Bool, true, false, not, _&&_}
 use mathlib.Core.List.{List, [], _∷_, map}
 use mathlib.Core.Path.{_≡_, refl, sym, ap, ap₂, subst, _∙_}
-use Prim.Native.Nat.{ℕ, zero, suc, _+_, _-_, _*_, _/_, _^_, _≤_, _<_}
+use Prim.Native.Nat.{ℕ, zero, suc, _*_, _^_, _≤_, _<_}
 use native.Mathlib.Decide.{decLt}
 use native.Mathlib.Nat.{sub-zero, zero-add}
 use native.Mathlib.Omega.{arith}
 use lib.Dec.{leb, ltb}
-use lib.ListN.{length, getD, replicate, length-replicate, length-map}
+use lib.ListN.{length, getD, replicate, length-replicate}
 use borrow.Author.Tests.{lt-ltb, le-ltb}
-use Rattle.bits.specs.declared.Size.{Size}
 use Rattle.bits.specs.declared.Size.the-variants.{H}
 use Rattle.bits.specs.Choice.{pick}
-use Rattle.bits.specs.Size.{shift}
-use Rattle.bits.proofs.Searches.{never}
 use Rattle.predicates.specs.Predicate.{allFalse, elements, predicateLength, hasBitFrom}
 use Rattle.predicates.proofs.Lengths.{elements-exact}
 use Rattle.predicates.proofs.Spans.{false-within}
@@ -22,7 +19,7 @@ use Rattle.replies.specs.declared.Reply.the-variants.{Done, IllegalState, ListT
 use Rattle.replies.specs.Reply.{isDone}
 use Rattle.registers.specs.declared.State.{State}
 use Rattle.registers.specs.Legal.{isLength, legal}
-use Rattle.registers.specs.State.{readX, readP}
+use Rattle.registers.specs.State.{readX}
 use Rattle.registers.proofs.Legality.{has-legal, not-allowed, made-counts, quads}
 use Rattle.registers.proofs.Registers.{all-length}
 use Rattle.words.specs.Words.{sizeOf}
@@ -39,14 +36,14 @@ use Rattle.walk.proofs.Demands.{demand3}
 use Rattle.fold.specs.Table.{foldUnit}
 use Rattle.fold.specs.Fold.{longest, budget, titleState, titleAnswer, titleList, foldedFirst, foldOf, foldReply}
 use Rattle.fold.proofs.Folding.{all-units}
-use Rattle.fold.proofs.Units.{unit-twice}
+use Rattle.fold.proofs.Units.{past-latin, unit-twice}
 
 -- ---- the state
 
-clear : (n r : ℕ) → getD (replicate n allFalse) r allFalse ≡ allFalse
-clear zero r = refl
-clear (suc n) zero = refl
-clear (suc n) (suc r) = clear n r
+all-same : {A : Type 0} (n i : ℕ) (a : A) → getD (replicate n a) i a ≡ a
+all-same zero i a = refl
+all-same (suc n) zero a = refl
+all-same (suc n) (suc i) a = all-same n i a
 
 -- it is legal exactly if the vector length is allowed
 title-legal : (vl units : ℕ) (b : Bool) → isLength vl ≡ b → legal (titleState vl units) ≡ b
@@ -54,7 +51,7 @@ title-legal vl units true e = has-legal s (record {
   sized = record { xs = refl; ps = refl; cs = all-length vl (replicate 17 allFalse) refl };
   len = e;
   level = omega arith;
-  bits = λ r k. ap (hasBitFrom (predicateLength vl)) (clear 17 r) ∙ false-within (predicateLength vl);
+  bits = λ r k. ap (hasBitFrom (predicateLength vl)) (all-same 17 r allFalse) ∙ false-within (predicateLength vl);
   counts = made-counts s refl refl;
 })
   where
@@ -62,18 +59,13 @@ title-legal vl units true e = has-legal s (record {
     s = titleState vl units
 title-legal vl units false e = sym (not-allowed (titleState vl units) false (ap (λ (b : Bool). b && leb 1 3) (sym e)) refl)
 
-zeros : (n i : ℕ) → _≡_ {A = ℕ} (getD (replicate n 0) i 0) 0
-zeros zero i = refl
-zeros (suc n) zero = refl
-zeros (suc n) (suc i) = zeros n i
-
 typed : (vl units : ℕ) → units ≤ longest → Typed (titleState vl units)
 typed vl units h = record { fits = fits }
   where
     fits : (i : ℕ) → readX (titleState vl units) i < 2 ^ 64
     fits zero = omega arith
     fits (suc zero) = omega arith
-    fits (suc (suc i)) = omega (arith, zeros 29 i)
+    fits (suc (suc i)) = omega (arith, all-same {A = ℕ} 29 i 0)
 
 -- X0 to X1, lanes P0, cursor P1
 registers : GoodRegisters 1 0 1 0 1
@@ -91,8 +83,8 @@ registers = record {
 -- ---- the budget
 
 -- there are at least eight H elements, and so at most 512 rounds
-at-most : (vl : ℕ) → isLength vl ≡ true → 8 ≤ elements vl H
-at-most vl e =
+eight-lanes : (vl : ℕ) → isLength vl ≡ true → 8 ≤ elements vl H
+eight-lanes vl e =
     let (q, v, one, most) = quads vl e in
     let exact : elements (128 * q) H * 2 ^ 1 ≡ 16 * q = elements-exact q H most in
     subst (λ (n : ℕ). 8 ≤ elements n H) (sym v) (omega arith)
@@ -105,7 +97,7 @@ few-rounds d e h k =
     ]
 
 enough : (vl units : ℕ) → isLength vl ≡ true → units ≤ longest → needed (sizeOf 1) 0 1 (titleState vl units) ≤ budget
-enough vl units e h = subst (λ (d : ℕ). budgetFor d (elements vl H) ≤ budget) (sym (sub-zero units)) (omega (arith, few-rounds units (elements vl H) h (at-most vl e)))
+enough vl units e h = subst (λ (d : ℕ). budgetFor d (elements vl H) ≤ budget) (sym (sub-zero units)) (omega (arith, few-rounds units (elements vl H) h (eight-lanes vl e)))
 
 -- the budget suffices for every title at every vector length, and the longest title at the least vector length needs all of it
 pub needed-most : ((vl units : ℕ) → isLength vl ≡ true → units ≤ longest → needed (sizeOf 1) 0 1 (titleState vl units) ≤ budget)
@@ -258,3 +250,12 @@ fold-twice v w t e =
         lent-folds vl t .title
         ∙ ap (λ (b : Bool). pick b (map foldUnit t) t)
         (ap (λ (b : Bool). isDone (pick (not (isLength vl)) IllegalState (pick b ListTooShort Done))) (lt-ltb longest (length t) h) ∙ never-done (not (isLength vl)))
+
+-- the units that the paper names
+abbrev kept : List ℕ
+kept = 0xC6 ∷ 0xD0 ∷ 0xD7 ∷ 0xD8 ∷ 0xDE ∷ 0xDF ∷ 0xE6 ∷ 0xF0 ∷ 0xF7 ∷ 0xF8 ∷ 0xFE ∷ []
+
+-- they stay, and so do all from 100 (hexadecimal) on
+pub fold-kept : (map foldUnit kept ≡ kept) × ((u : ℕ) → 256 ≤ u → foldUnit u ≡ u)
+unfolding foldUnit
+fold-kept = (refl, λ u h. sym (past-latin u (omega arith)))

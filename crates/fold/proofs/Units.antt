@@ -1,6 +1,6 @@
 -- What a unit becomes. A rule over a range is one test that antt computes over all of it. Assumes nothing.
 use mathlib.Core.Bool.{Bool, true, false, not, _&&_}
-use mathlib.Core.List.{List, [], _∷_, map}
+use mathlib.Core.List.{List, [], _∷_}
 use mathlib.Core.Path.{_≡_, refl, sym, ap, ap₂, _∙_}
 use Prim.Native.Nat.{ℕ, _+_, _-_, _≤_, _<_, max}
 use native.Mathlib.Decide.{decLt}
@@ -10,10 +10,10 @@ use lib.ListN.{getD}
 use borrow.Author.Tests.{le-leb, lt-leb, eqb-true}
 use Rattle.bits.specs.Choice.{pick}
 use Rattle.bits.specs.Search.{some}
-use Rattle.bits.proofs.Searches.{never, some-none}
+use Rattle.bits.proofs.Searches.{some-none}
 use Rattle.fold.specs.Table.{Row, within, rows, letterIn, foldUnit}
 
--- two rules that agree at none but n numbers: if they differ at none of these, they agree there
+-- two rules that differ at none of the numbers below n agree at each of them
 alike : (f g : ℕ → ℕ) (n : ℕ) → some (λ k. not (eqb (f k) (g k))) n ≡ false → (k : ℕ) → k < n → f k ≡ g k
 alike f g n e k h = eqb-true (f k) (g k) (not-false (eqb (f k) (g k)) (some-none (λ k. not (eqb (f k) (g k))) n e k h))
   where
@@ -73,12 +73,3 @@ unit-twice u =
       | yes h ↦ alike (λ u. foldUnit (foldUnit u)) foldUnit 256 refl u h
       | no h ↦ ap foldUnit (sym (past-latin u (omega arith)))
     ]
-
--- the units that the paper names
-abbrev kept : List ℕ
-kept = 0xC6 ∷ 0xD0 ∷ 0xD7 ∷ 0xD8 ∷ 0xDE ∷ 0xDF ∷ 0xE6 ∷ 0xF0 ∷ 0xF7 ∷ 0xF8 ∷ 0xFE ∷ []
-
--- they stay, and so do all from 100 (hexadecimal) on
-pub fold-kept : (map foldUnit kept ≡ kept) × ((u : ℕ) → 256 ≤ u → foldUnit u ≡ u)
-unfolding foldUnit
-fold-kept = (refl, λ u h. sym (past-latin u (omega arith)))
