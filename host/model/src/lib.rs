@@ -6,6 +6,7 @@
 
 mod counter;
 mod execute;
+mod fold;
 pub mod forms;
 mod image;
 mod reply;
@@ -16,6 +17,7 @@ mod text;
 mod walk;
 mod words;
 
+pub use fold::fold;
 pub use image::{read, write, Reading, Written};
 pub use shared::{shared_step, shared_walk, Kernel, Shared, SharedWalked};
 pub use state::{Flags, State};

@@ -40,6 +40,11 @@ pub fn psize(size: u8) -> usize {
     }
 }
 
+/// "Vector length VL: 128, 256, 512, 1024 or 2048."
+pub fn is_length(vl: u64) -> bool {
+    matches!(vl, 128 | 256 | 512 | 1024 | 2048)
+}
+
 fn bit(predicate: &[u64; 4], b: usize) -> bool {
     (predicate[b / 64] >> (b % 64)) & 1 == 1
 }
@@ -59,7 +64,7 @@ impl State {
     /// Whether reply 4 does not refuse it. "Reply 4 covers" FFR's "bits at or above PL" as well, and "a state handed in with a
     /// wrong count is refused with 4".
     pub fn legal(&self) -> bool {
-        matches!(self.vl, 128 | 256 | 512 | 1024 | 2048)
+        is_length(self.vl)
             && self.level <= 3
             && self.p.iter().all(|predicate| self.is_within_pl(predicate))
             && self.is_within_pl(&self.ffr)
