@@ -9,3 +9,4 @@ pub mod kernels;
 pub mod random;
 pub mod routes;
 pub mod states;
+pub mod titles;

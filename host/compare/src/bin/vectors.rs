@@ -9,29 +9,34 @@ use compare::instructions::{logic_word, short_word, LOGIC, RDFFR, RDFFRS_PG, RDF
 use compare::kernels::{self, Field, KERNELS};
 use compare::random::Random;
 use compare::routes::{route, Bounds};
-use compare::{instructions, states};
+use compare::{instructions, states, titles};
 use model::{Flags, Kernel, Shared, State};
-use std::collections::BTreeMap;
+use std::collections::{BTreeMap, BTreeSet};
 use std::io::Write;
 
 const INSTRUCTIONS: u64 = 3_000;
 const IMAGES: u64 = 220;
 const WALKS: u64 = 150;
-const LARGEST: usize = 880_000;
+/// The reader has room for 900,000.
+const LARGEST: usize = 899_000;
 
 const RUN: u8 = 1;
 const IMAGE: u8 = 2;
 const WALK: u8 = 3;
 const STEP: u8 = 4;
+const TITLE: u8 = 5;
 
 /// Searches are runs too, drawn apart from the others, and so are runs that come to a word that is none of ours, those of
-/// FFR's words, and those that go by the counts of what was written. Steps of two kernels are drawn apart from all of them.
+/// FFR's words, and those that go by the counts of what was written. Steps of two kernels are drawn apart from all of them, and
+/// so are titles.
 const SEARCH: u64 = 4;
 const SIZES: [u8; 4] = [0, 1, 2, 3];
 const REFUSED: u64 = 5;
 const FFR: u64 = 6;
 const COUNTS: u64 = 7;
 const TURNS: u64 = 8;
+const FOLDED: u64 = 9;
+const REFUSED_TITLES: u64 = 10;
 
 /// Counts of FFR's section, with as many times its bytes.
 const FFRS: [u32; 4] = [0, 2, 3, 4];
@@ -81,27 +86,36 @@ fn main() {
     for number in 0..WALKS {
         walk(&mut file, &mut Random::new(seed, u64::from(WALK), number), number);
     }
-    for vl in states::LENGTHS {
-        for size in SIZES {
-            search(&mut file, &mut Random::new(seed, SEARCH, vl << 2 | u64::from(size)), vl, size);
-        }
-    }
-    for number in 0..(NOT_OURS.len() * PLACES.len()) as u64 {
-        refused(&mut file, &mut Random::new(seed, REFUSED, number), number as usize);
-    }
-    for (number, vl) in states::LENGTHS.into_iter().enumerate() {
-        let random = &mut Random::new(seed, FFR, number as u64);
-        ffr_words(&mut file, random, vl);
-        PLACES.iter().for_each(|&place| write_of_no_run(&mut file, random, vl, place));
-    }
-    for (number, vl) in states::LENGTHS.into_iter().enumerate() {
-        counts(&mut file, &mut Random::new(seed, COUNTS, number as u64), vl);
-    }
+    further_runs(&mut file, seed);
     for (number, kernel) in KERNELS.into_iter().enumerate() {
         steps(&mut file, &mut Random::new(seed, TURNS, number as u64), kernel);
     }
+    for vl in states::LENGTHS {
+        accepted_titles(&mut file, &mut Random::new(seed, FOLDED, vl), vl);
+    }
+    refused_titles(&mut file, &mut Random::new(seed, REFUSED_TITLES, 0));
     file.say_and_check();
     std::io::stdout().write_all(&file.bytes).expect("standard output takes the file");
+}
+
+/// The runs that are drawn apart from the others.
+fn further_runs(file: &mut File, seed: u64) {
+    for vl in states::LENGTHS {
+        for size in SIZES {
+            search(file, &mut Random::new(seed, SEARCH, vl << 2 | u64::from(size)), vl, size);
+        }
+    }
+    for number in 0..(NOT_OURS.len() * PLACES.len()) as u64 {
+        refused(file, &mut Random::new(seed, REFUSED, number), number as usize);
+    }
+    for (number, vl) in states::LENGTHS.into_iter().enumerate() {
+        let random = &mut Random::new(seed, FFR, number as u64);
+        ffr_words(file, random, vl);
+        PLACES.iter().for_each(|&place| write_of_no_run(file, random, vl, place));
+    }
+    for (number, vl) in states::LENGTHS.into_iter().enumerate() {
+        counts(file, &mut Random::new(seed, COUNTS, number as u64), vl);
+    }
 }
 
 /// The file so far, and what stands in it.
@@ -171,6 +185,18 @@ fn expected() -> Vec<String> {
     }
     let names = (0..SETFFR).flat_map(kernels::fields).map(|field| field.name);
     list.extend(names.map(names_other));
+    list.extend(expected_titles());
+    list
+}
+
+fn expected_titles() -> Vec<String> {
+    let mut list = Vec::from([0, 4, 11].map(|reply| reply_of(TITLE, reply)));
+    for vl in states::LENGTHS {
+        let lanes = titles::lanes(vl);
+        list.extend([0, 1, lanes - 1, lanes, lanes + 1, 64, 65].map(|units| title_of(units, vl)));
+        list.push(whole_table(vl));
+    }
+    list.push(title_of(titles::LONGEST, 128));
     list
 }
 
@@ -239,6 +265,15 @@ fn form_stepped(form: u8, kernel: Kernel, reply: u8) -> String {
 /// The field that names a register of the other kernel.
 fn names_other(field: &str) -> String {
     format!("steps with a register of the other as {field}")
+}
+
+/// An accepted title.
+fn title_of(units: usize, vl: u64) -> String {
+    format!("titles of {units} units folded at {vl}")
+}
+
+fn whole_table(vl: u64) -> String {
+    format!("titles with the whole table at {vl}")
 }
 
 /// Bytes after their length.
@@ -590,4 +625,52 @@ fn second(kernel: Kernel) -> u8 {
 /// N is the highest of the four bits.
 fn nzcv(flags: &Flags) -> u8 {
     [flags.n, flags.z, flags.c, flags.v].into_iter().fold(0, |number, flag| number << 1 | u8::from(flag))
+}
+
+/// Around a vector, and two; up to the 64 units that have a shorter list, and from 65 on; the table; and once as long as can be,
+/// where vectors are shortest.
+fn accepted_titles(file: &mut File, random: &mut Random, vl: u64) {
+    let lanes = titles::lanes(vl);
+    let lengths = BTreeSet::from([0, 1, lanes - 1, lanes, lanes + 1, 2 * lanes + 1, 64, 65]);
+    for units in lengths {
+        store_title(file, vl, &titles::drawn(random, units), 0);
+    }
+    store_title(file, vl, &table(), 0);
+    if vl == 128 {
+        store_title(file, vl, &titles::drawn(random, titles::LONGEST), 0);
+    }
+}
+
+/// A to Z and C0 to FF, and the units beside them.
+fn table() -> Vec<u16> {
+    (0x40..=0x5B).chain(0xBF..=0x100).collect()
+}
+
+/// Of a vector length that is none, and of too many units.
+fn refused_titles(file: &mut File, random: &mut Random) {
+    for (number, vl) in states::BAD_LENGTHS.into_iter().enumerate() {
+        let units = [20, 0, 8, 1, 64, 65][number % 6];
+        store_title(file, vl, &titles::drawn(random, units), 4);
+    }
+    let vl = random.pick(&states::LENGTHS);
+    store_title(file, vl, &titles::drawn(random, titles::LONGEST + 1), 11);
+}
+
+fn store_title(file: &mut File, vl: u64, title: &[u16], reply: u8) {
+    let mut after = title.to_vec();
+    assert_eq!(model::fold(&mut after, vl), reply, "{} units at {vl}", title.len());
+    let mut rest = Vec::new();
+    rest.extend(vl.to_le_bytes());
+    rest.extend((title.len() as u32).to_le_bytes());
+    rest.push(reply);
+    rest.extend(title.iter().chain(&after).flat_map(|unit| unit.to_le_bytes()));
+    file.record(TITLE, &rest);
+    file.see(reply_of(TITLE, reply));
+    if reply != 0 {
+        return;
+    }
+    file.see(title_of(title.len(), vl));
+    if table().iter().all(|unit| title.contains(unit)) {
+        file.see(whole_table(vl));
+    }
 }
