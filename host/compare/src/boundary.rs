@@ -57,6 +57,10 @@ pub fn walk(route: &Route, list: &mut [u64]) -> Walked {
     Walked { reply, count: walked.count, visited: walked.visited, state }
 }
 
+pub fn fold(title: &mut [u16], vl: u64) -> u8 {
+    number(plokamyr::fold(title, vl))
+}
+
 pub fn shared_step(shared: &Shared, kernel: Kernel, word: u32) -> (u8, Shared) {
     let (reply, shared) = guarded(to_shared(shared), |shared| shared.step(to_kernel(kernel), word));
     (number(reply), from_shared(&shared))

@@ -51,6 +51,10 @@ pub fn byte(number: u64) -> u8 {
     number as u8
 }
 
+pub fn unit(number: u64) -> u16 {
+    number as u16
+}
+
 pub fn word(number: u64) -> u32 {
     number as u32
 }

@@ -13,12 +13,14 @@ mod counts;
 mod differences;
 mod digits;
 mod ffr;
+mod folds;
 mod illegal;
 mod images;
 mod kind;
 mod lent;
 mod logic;
 mod owners;
+mod refused_titles;
 mod schedules;
 mod searches;
 mod seen;
@@ -26,6 +28,8 @@ mod steps;
 mod strays;
 mod taken;
 mod texts;
+mod twice;
+mod units;
 mod walk_owners;
 mod walks;
 mod whiles;
@@ -51,7 +55,7 @@ fn entry<K: Kind>() -> Entry {
     Entry { name: K::NAME, all: run_all::<K>, one: run_case::<K> }
 }
 
-fn entries() -> [Entry; 25] {
+fn entries() -> [Entry; 29] {
     [
         entry::<steps::Steps>(),
         entry::<steps::Runs>(),
@@ -71,6 +75,10 @@ fn entries() -> [Entry; 25] {
         entry::<walk_owners::WalkOwners>(),
         entry::<schedules::Schedules>(),
         entry::<why::Why>(),
+        entry::<units::Units>(),
+        entry::<folds::Titles>(),
+        entry::<refused_titles::RefusedTitles>(),
+        entry::<twice::Twice>(),
         entry::<images::Reads>(),
         entry::<images::Cuts>(),
         entry::<images::Damages>(),

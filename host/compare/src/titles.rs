@@ -52,7 +52,27 @@ fn border(random: &mut Random) -> u16 {
     random.pick(&[first - 1, first, last, last + 1])
 }
 
-/// Whether a unit becomes a letter, by the rows.
-pub fn is_in_row(unit: u16) -> bool {
-    ROWS.iter().any(|&(first, last)| (first..=last).contains(&unit))
+#[cfg(test)]
+mod tests {
+    use super::*;
+
+    /// The rows that titles are drawn from are those of the second program: a border that is missing would not be drawn.
+    #[test]
+    fn rows_of_the_table() {
+        for unit in 0..=u16::MAX {
+            let is_in_row = ROWS.iter().any(|&(first, last)| (first..=last).contains(&unit));
+            let mut title = [unit];
+            assert_eq!(model::fold(&mut title, 128), 0);
+            assert_eq!(title != [unit], is_in_row, "{unit:#x}");
+        }
+    }
+
+    #[test]
+    fn borders_and_others_are_drawn() {
+        let title = drawn(&mut Random::new(1, 2, 3), 20_000);
+        let borders = ROWS.iter().flat_map(|&(first, last)| [first - 1, first, last, last + 1]);
+        borders.for_each(|border| assert!(title.contains(&border), "{border:#x}"));
+        (0..0x100).for_each(|unit| assert!(title.contains(&unit), "{unit:#x}"));
+        assert!(title.iter().any(|&unit| unit > 0xFFF && (0x41..=0x5A).contains(&(unit & 0xFF))));
+    }
 }
