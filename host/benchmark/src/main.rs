@@ -13,6 +13,7 @@ mod search;
 mod second;
 mod table;
 mod timing;
+mod titles;
 mod words;
 
 use builds::{BUILDS, NOW};
@@ -29,7 +30,7 @@ const TITLES: u64 = 4_000;
 const ROUNDS: usize = 8;
 
 /// What is divided by what, under the table of times, where both were timed.
-const RATIOS: [(&str, &str); 15] = [
+const RATIOS: [(&str, &str); 18] = [
     ("step, lent", "step"),
     ("step, second program", "step"),
     ("step, shared", "step, nine forms"),
@@ -40,6 +41,9 @@ const RATIOS: [(&str, &str); 15] = [
     ("walk, qemu, no positions", "walk"),
     ("walk, shared", "walk"),
     ("walk, titles, shared", "walk, titles"),
+    ("fold, 20 units", "fold, 20 units, plain loop"),
+    ("fold, 200 units", "fold, 200 units, plain loop"),
+    ("fold, 4096 units", "fold, 4096 units, plain loop"),
     ("search, by elements", "search, by words"),
     ("run, before", "run"),
     ("run, PNEXT, before", "run, PNEXT"),
@@ -61,7 +65,10 @@ search: from byte element 0 of a mask in which only the last is active, in ns fo
 does it. By elements: a scan that tests one after the other.
 run, PNEXT: 15 words of PNEXT through that mask, each from an empty cursor; the state is set and tested for each run.
 walk: 2,000,000 byte positions (the second program: 20,000). Instructions are the walk's own, D + 3R + 2.
-Titles: walks of 20 positions, one after the other. Shared: of the second of two kernels.";
+Titles: walks of 20 positions, one after the other. Shared: of the second of two kernels.
+fold: titles of so many units, in ns for each unit, put back before each time. Small letters, and among eight units a large one,
+one of C0 to FF, and a space. Plain loop: over the same table, in Rust, with no walk and at no vector length. The library was
+compared with the second program, and so was the loop. From 65 units on the library's list has 4,096 places, up to 64 as many.";
 
 #[cfg(before)]
 const COPIES: &str = "timed as the other is: by a copy, each of whose functions is at a multiple of 64 bytes.";
@@ -106,6 +113,7 @@ fn main() {
             bench.ffr_round(column, vl);
             bench.search_round(column, vl);
             bench.walk_round(column, vl);
+            bench.titles_round(column, vl);
         }
     }
     bench.table.print(&RATIOS);
@@ -223,6 +231,14 @@ impl Bench {
             let (stored, bare) = qemu.walk(vl, POSITIONS);
             table.take("walk, qemu", column, stored / count);
             table.take("walk, qemu, no positions", column, bare / count);
+        }
+    }
+    /// Times titles folded, by the walk and by a plain loop.
+    fn titles_round(&mut self, column: usize, vl: u64) {
+        for units in titles::UNITS {
+            let name = format!("fold, {units} units");
+            self.table.take(&name, column, titles::by_library(vl, units));
+            self.table.take(&format!("{name}, plain loop"), column, titles::by_plain_loop(units));
         }
     }
 }
