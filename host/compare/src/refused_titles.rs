@@ -18,8 +18,8 @@ const BESIDE: [u64; 5] = [u64::MAX - 1, u64::MAX, 0, 1, 2];
 /// A power of two, and what is added to it: so small a thing, or an allowed length.
 const POWERS: usize = 64 * (BESIDE.len() + LENGTHS.len());
 
-/// Titles of a bad vector length: short, middle, full, long.
-const TITLES: usize = 4;
+/// Titles of a bad vector length: empty, short, middle, full, long.
+const TITLES: usize = 5;
 /// Too many units at an allowed one, those that sixteen bits cut off among them.
 const TOO_MANY: [usize; 9] = [4097, 4098, 4160, 8191, 8192, 65_535, 65_536, 65_556, 0x20_0000 + 20];
 
@@ -99,9 +99,10 @@ fn length_and_units(random: &mut Random, number: u64) -> (u64, usize) {
         return (digits.pick(&LENGTHS), digits.pick(&TOO_MANY));
     }
     let units = match number as usize % TITLES {
-        0 => random.index(65),
-        1 => 65 + random.index(LONGEST - 65),
-        2 => LONGEST,
+        0 => 0,
+        1 => 1 + random.index(64),
+        2 => 65 + random.index(LONGEST - 65),
+        3 => LONGEST,
         _ => LONGEST + 1 + random.index(LONGEST),
     };
     (bad_length(number), units)
