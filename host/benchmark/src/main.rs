@@ -41,9 +41,9 @@ const RATIOS: [(&str, &str); 18] = [
     ("walk, qemu, no positions", "walk"),
     ("walk, shared", "walk"),
     ("walk, titles, shared", "walk, titles"),
-    ("fold, 20 units", "fold, 20 units, plain loop"),
-    ("fold, 200 units", "fold, 200 units, plain loop"),
-    ("fold, 4096 units", "fold, 4096 units, plain loop"),
+    ("fold, 20 units", "loop, 20 units"),
+    ("fold, 200 units", "loop, 200 units"),
+    ("fold, 4096 units", "loop, 4096 units"),
     ("search, by elements", "search, by words"),
     ("run, before", "run"),
     ("run, PNEXT, before", "run, PNEXT"),
@@ -67,8 +67,9 @@ run, PNEXT: 15 words of PNEXT through that mask, each from an empty cursor; the 
 walk: 2,000,000 byte positions (the second program: 20,000). Instructions are the walk's own, D + 3R + 2.
 Titles: walks of 20 positions, one after the other. Shared: of the second of two kernels.
 fold: titles of so many units, in ns for each unit, put back before each time. Small letters, and among eight units a large one,
-one of C0 to FF, and a space. Plain loop: over the same table, in Rust, with no walk and at no vector length. The library was
-compared with the second program, and so was the loop. From 65 units on the library's list has 4,096 places, up to 64 as many.";
+one of C0 to FF, and a space. The library's list has 64 places for titles of up to 64 units, else 4,096.
+loop: the same titles by a plain loop over the same table, in Rust, with no walk and at no vector length. What either leaves
+was compared with the second program.";
 
 #[cfg(before)]
 const COPIES: &str = "timed as the other is: by a copy, each of whose functions is at a multiple of 64 bytes.";
@@ -236,9 +237,8 @@ impl Bench {
     /// Times titles folded, by the walk and by a plain loop.
     fn titles_round(&mut self, column: usize, vl: u64) {
         for units in titles::UNITS {
-            let name = format!("fold, {units} units");
-            self.table.take(&name, column, titles::by_library(vl, units));
-            self.table.take(&format!("{name}, plain loop"), column, titles::by_plain_loop(units));
+            self.table.take(&format!("fold, {units} units"), column, titles::by_library(vl, units));
+            self.table.take(&format!("loop, {units} units"), column, titles::by_plain_loop(units));
         }
     }
 }
