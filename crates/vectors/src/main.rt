@@ -53,13 +53,13 @@ struct Tally {
 }
 
 fn main() {
-    judge([0; 900000]);
+    judge([0; 920000]);
 }
 
 // Reads into the bytes handed in, which are more than the input may have.
-fn judge(mut bytes: [u8; 900000]) {
+fn judge(mut bytes: [u8; 920000]) {
     let length = io::read_full(STDIN_FILENO, &mut bytes);
-    if length == 900000 {
+    if length == 920000 {
         io::write_all(STDOUT_FILENO, b"the input is too long\n");
         return;
     }

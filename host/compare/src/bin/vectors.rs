@@ -17,8 +17,8 @@ use std::io::Write;
 const INSTRUCTIONS: u64 = 3_000;
 const IMAGES: u64 = 220;
 const WALKS: u64 = 150;
-/// The reader has room for 900,000.
-const LARGEST: usize = 899_000;
+/// The reader has room for 920,000.
+const LARGEST: usize = 919_000;
 
 const RUN: u8 = 1;
 const IMAGE: u8 = 2;
@@ -646,14 +646,15 @@ fn table() -> Vec<u16> {
     (0x40..=0x5B).chain(0xBF..=0x100).collect()
 }
 
-/// Of a vector length that is none, and of too many units.
+/// Of a vector length that is none, of too many units, and of both.
 fn refused_titles(file: &mut File, random: &mut Random) {
     for (number, vl) in states::BAD_LENGTHS.into_iter().enumerate() {
         let units = [20, 0, 8, 1, 64, 65][number % 6];
         store_title(file, vl, &titles::drawn(random, units), 4);
     }
-    let vl = random.pick(&states::LENGTHS);
-    store_title(file, vl, &titles::drawn(random, titles::LONGEST + 1), 11);
+    let too_long = titles::drawn(random, titles::LONGEST + 1);
+    store_title(file, random.pick(&states::LENGTHS), &too_long, 11);
+    store_title(file, random.pick(&states::BAD_LENGTHS), &too_long, 4);
 }
 
 fn store_title(file: &mut File, vl: u64, title: &[u16], reply: u8) {
