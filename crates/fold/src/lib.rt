@@ -10,6 +10,7 @@ use predicates::Flags;
 use predicates::Predicate;
 use registers::State;
 use replies::Reply;
+use tally::Counts;
 use walk::Walked;
 
 // What C0 to FF become.
@@ -127,7 +128,16 @@ fn title_state(vl: u64, units: u64) -> State
 {
     let mut x = [0u64; 31];
     x[1] = units;
-    State::new(vl, 1, true, Flags::of(0), x, [Predicate::none(); 17])
+    // Not `State::new`, which would count the true elements of sixteen predicates that have none.
+    State {
+        vl,
+        level: 1,
+        access: true,
+        flags: Flags::of(0),
+        x,
+        p: [Predicate::none(); 17],
+        counts: [Counts::none(); 16],
+    }
 }
 
 // As many instructions as 4,096 units at VL 128 take, the most of all: 4,096 + 3 * 512 + 2.
