@@ -1,6 +1,7 @@
 //! How a command ends. The statuses are those of `./run`.
 
 use crate::args::Args;
+use crate::filter::Filter;
 use crate::json::Json;
 use crate::words::plain;
 use plokamyr::Reply;
@@ -8,7 +9,7 @@ use std::io;
 
 /// All is done, and two things are alike.
 pub const DONE: u8 = 0;
-/// A word or a walk was refused; two images differ.
+/// A word, a walk or a title was refused; two images differ.
 pub const REFUSED: u8 = 1;
 /// An image was refused.
 pub const IMAGE_REFUSED: u8 = 2;
@@ -29,11 +30,13 @@ pub fn status_of(reply: Reply) -> u8 {
 pub struct Outcome {
     pub text: Vec<u8>,
     pub status: u8,
+    /// What has all of that instead: it prints while it reads standard input, and then has a status.
+    pub filter: Option<Filter>,
 }
 
 impl Outcome {
     pub fn new(text: impl Into<Vec<u8>>, status: u8) -> Outcome {
-        Outcome { text: text.into(), status }
+        Outcome { text: text.into(), status, filter: None }
     }
 
     /// JSON if that is asked for, else text.

@@ -1,7 +1,7 @@
 //! What the command has, in one table: by it arguments are read, and `--help` and the manual page are written.
 
 use crate::args::Args;
-use crate::commands::{asm, diff, dis, explain, new, run, show, walk};
+use crate::commands::{asm, diff, dis, explain, fold, new, run, show, walk};
 use crate::failure::{Failure, Outcome};
 use crate::style::Style;
 use crate::syntax::table;
@@ -192,6 +192,24 @@ pub const COMMANDS: &[Command] = &[
         example: "walk tail.image -n 1 -m 2 -d 0 -k 1",
         run: walk::command,
     },
+    Command {
+        name: "fold",
+        operands: "[TEXT..]",
+        summary: "folds titles for an index: É and é, E and e alike",
+        text: "Prints each TEXT with A to Z made small and the letters of Latin-1 without their accents: by its 16-bit units, of which a \
+               title has at most 4,096, walked at a vector length; the title is the same at each. What has no plain letter stays, as Æ, Ø and ß, \
+               and so does all beyond Latin-1. Without TEXT it is a filter: each line of standard input is a title, and is \
+               written as soon as it is folded. A line that has more units or is not UTF-8 goes through as it is; its number and why are told on \
+               standard error, and the status is 1.",
+        list: None,
+        options: &[
+            option("vl", "BITS", "the vector length: 128, 256, 512, 1024 or 2048; 512 if it is not given"),
+            flag("units", "print the units, four hexadecimal digits each, in place of the text"),
+            flag("json", "print JSON, with the fields that FORMAT.md has; without TEXT an object for each line"),
+        ],
+        example: "fold 'École normale supérieure'",
+        run: fold::command,
+    },
 ];
 
 pub const VERSION: &str = concat!("plokamyr ", env!("CARGO_PKG_VERSION"));
@@ -208,13 +226,13 @@ pub const BUILD: &str = match option_env!("PLOKAMYR_BUILD") {
 pub const FORMAT: &str = "FORMAT.md has images, words, replies and JSON in full: docs/FORMAT.md in the repository, \
                           share/doc/plokamyr/FORMAT.md below the folder that the command is installed in.";
 
-pub const ABOUT: &str = "Runs, shows, makes and compares images of Plokamyr, the predicate part of an Arm SVE interpreter, and turns words into \
-                         instructions and back. An image is a file with a register state and instruction words. What an \
+pub const ABOUT: &str = "Runs, shows, makes and compares images of Plokamyr, the predicate part of an Arm SVE interpreter, turns words into \
+                         instructions and back, and folds titles. An image is a file with a register state and instruction words. What an \
                          instruction does comes from the proved library.";
 
 pub const STATUS: [(&str, &str); 5] = [
     ("0", "done"),
-    ("1", "a word or a walk was refused; images differ"),
+    ("1", "a word, a walk or a title was refused; images differ"),
     ("2", "an image was refused"),
     ("3", "anything else, with a message on standard error that says what"),
     ("141", "the reader of standard output has gone away; nothing is said"),

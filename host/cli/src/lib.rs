@@ -13,11 +13,13 @@ mod disassemble;
 mod dump;
 mod failure;
 mod faults;
+mod filter;
 mod help;
 mod image;
 mod json;
 mod lanes;
 mod list;
+mod log;
 mod manual;
 mod reason;
 mod save;
@@ -26,11 +28,14 @@ mod style;
 mod sve;
 mod syntax;
 mod terminal;
+mod titles;
 mod words;
 
 pub use assemble::{assemble, Fault};
 pub use disassemble::{disassemble, level, Aliases};
 pub use failure::{why, Failure, Outcome};
+pub use filter::{Filter, Trouble};
+pub use log::Log;
 pub use style::Style;
 
 /// What the command answers to its arguments, after its own name.

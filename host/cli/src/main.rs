@@ -2,10 +2,10 @@
 
 mod descriptors;
 
-use cli::{answer, why, Failure, Outcome, Style};
+use cli::{answer, why, Failure, Filter, Log, Outcome, Style, Trouble};
 use std::env::args_os;
 use std::ffi::OsString;
-use std::io::{self, ErrorKind, Write};
+use std::io::{self, ErrorKind, IsTerminal, Write};
 use std::process::ExitCode;
 
 /// What a shell tells of a command that SIGPIPE has ended.
@@ -33,12 +33,26 @@ fn given() -> Result<Vec<String>, Failure> {
 
 /// If the reader goes away early nothing is said, as with any command.
 fn deliver(outcome: &Outcome) -> u8 {
-    let mut out = io::stdout().lock();
-    match out.write_all(&outcome.text).and_then(|()| out.flush()) {
-        Ok(()) => outcome.status,
-        Err(error) if error.kind() == ErrorKind::BrokenPipe => READER_GONE,
-        Err(error) => say(&format!("standard output cannot be written: {}", why(&error)).into()),
+    match outcome.filter.map_or_else(|| print(outcome), filter) {
+        Ok(status) => status,
+        Err(Trouble::Output(error)) if error.kind() == ErrorKind::BrokenPipe => READER_GONE,
+        Err(Trouble::Output(error)) => say(&format!("standard output cannot be written: {}", why(&error)).into()),
+        Err(Trouble::Input(error)) => say(&format!("fold: standard input cannot be read: {}", why(&error)).into()),
     }
+}
+
+fn print(outcome: &Outcome) -> Result<u8, Trouble> {
+    let mut out = io::stdout().lock();
+    let written = out.write_all(&outcome.text).and_then(|()| out.flush());
+    written.map(|()| outcome.status).map_err(Trouble::Output)
+}
+
+/// Progress has a line of the terminal to itself: there is none where titles are typed or shown.
+fn filter(filter: Filter) -> Result<u8, Trouble> {
+    let (input, out, mut err) = (io::stdin(), io::stdout(), io::stderr());
+    let style = Style::of(&err);
+    let progress = err.is_terminal() && !input.is_terminal() && !out.is_terminal();
+    filter.run(&mut input.lock(), &mut out.lock(), &mut Log::new(&mut err, style, progress))
 }
 
 /// A closed standard error changes no exit status.

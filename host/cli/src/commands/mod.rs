@@ -4,6 +4,7 @@ pub mod asm;
 pub mod diff;
 pub mod dis;
 pub mod explain;
+pub mod fold;
 pub mod new;
 pub mod run;
 pub mod show;
