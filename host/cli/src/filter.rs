@@ -379,7 +379,7 @@ mod tests {
         let input = [long.as_bytes(), b"\xf0\x9d\x84A\n"].concat();
         let (out, notes, _) = always(TEXT, &input);
         assert!(out == input);
-        assert_eq!(notes, "plokamyr: fold: line 1: not UTF-8 at byte 600,001\n");
+        assert_eq!(notes, "plokamyr: fold: line 1: not UTF-8 at byte 600001\n");
     }
 
     /// More text and more notes come out of a block than go in.

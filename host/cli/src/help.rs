@@ -195,12 +195,12 @@ pub const COMMANDS: &[Command] = &[
     Command {
         name: "fold",
         operands: "[TEXT..]",
-        summary: "folds titles for an index: É and é, E and e alike",
-        text: "Prints each TEXT with A to Z made small and the letters of Latin-1 without their accents: by its 16-bit units, of which a \
-               title has at most 4,096, walked at a vector length; the title is the same at each. What has no plain letter stays, as Æ, Ø and ß, \
-               and so does all beyond Latin-1. Without TEXT it is a filter: each line of standard input is a title, and is \
-               written as soon as it is folded. A line that has more units or is not UTF-8 goes through as it is; its number and why are told on \
-               standard error, and the status is 1.",
+        summary: "turns titles into small letters without accents, for an index",
+        text: "Prints each TEXT with A to Z small and the letters of Latin-1 without their accents. Each of its 16-bit units, of which there may \
+               be 4,096, is folded once, by the walk at a vector length; what comes out is the same at every one. A unit without a plain letter \
+               stays, as those of Æ, Ø and ß, and so do all beyond Latin-1. Without TEXT it is a filter: each line of standard input is a \
+               title, and is written as soon as it is folded. A line that has more units or is not UTF-8 goes through as it is; its number and the \
+               reason are told on standard error, and the status is 1.",
         list: None,
         options: &[
             option("vl", "BITS", "the vector length: 128, 256, 512, 1024 or 2048; 512 if it is not given"),

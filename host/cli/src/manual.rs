@@ -32,9 +32,12 @@ fn section(command: &Command) -> String {
     text + &format!(".PP\nFor example:\n.PP\n.RS\n.nf\nplokamyr {}\n.fi\n.RE\n", roff(command.example))
 }
 
-/// A text as roff takes it: dashes and quotes are what they are, and no line begins with a control character.
+/// A text as roff takes it: dashes and quotes are what they are, other letters are told by their numbers, and no line begins with a
+/// control character.
 fn roff(text: &str) -> String {
     let plain = text.replace('\\', "\\e").replace('-', "\\-").replace('\'', "\\(aq");
+    let told = |c: char| if c.is_ascii() { c.to_string() } else { format!("\\[u{:04X}]", u32::from(c)) };
+    let plain: String = plain.chars().map(told).collect();
     match plain.starts_with('.') {
         true => format!("\\&{plain}"),
         false => plain,

@@ -20,7 +20,7 @@ pub struct Refusal {
 impl Refusal {
     /// Of bytes that are no text from one on, which is told by how many stand before it.
     pub fn not_utf8(before: u64) -> Refusal {
-        Refusal { reply: None, reason: format!("not UTF-8 at byte {}", grouped(before + 1)) }
+        Refusal { reply: None, reason: format!("not UTF-8 at byte {}", before + 1) }
     }
 
     pub fn json(&self) -> Json {
