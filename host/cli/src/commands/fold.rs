@@ -11,17 +11,17 @@ const BITS: u64 = 512;
 pub fn command(args: &Args, _: Style) -> Result<Outcome, Failure> {
     let vl = super::number(args, "vl", LENGTHS)?.unwrap_or(BITS);
     let form = Form { units: args.has("units"), json: args.has("json") };
-    match args.operands.as_slice() {
-        [] => filter(vl, form),
-        titles => of_texts(titles, vl, form),
+    // what is refused of an empty title is refused of every one
+    if let Err(refusal) = Folder::new(vl).fold("") {
+        let json = match args.operands.len() {
+            0 => refusal.json(),
+            titles => Json::list(vec![refusal.json(); titles]),
+        };
+        return Err(refused(refusal.to_string(), json));
     }
-}
-
-/// What is refused of an empty title is refused of every one, so that nothing has to be read.
-fn filter(vl: u64, form: Form) -> Result<Outcome, Failure> {
-    match Folder::new(vl).fold("") {
-        Ok(_) => Ok(Outcome { filter: Some(Filter { vl, form }), ..Outcome::new("", DONE) }),
-        Err(refusal) => Err(refused(refusal.to_string(), refusal.json())),
+    match args.operands.as_slice() {
+        [] => Ok(Outcome { filter: Some(Filter { vl, form }), ..Outcome::new("", DONE) }),
+        titles => of_texts(titles, vl, form),
     }
 }
 
