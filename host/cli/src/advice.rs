@@ -17,7 +17,7 @@ pub fn advice(reply: Reply) -> &'static str {
         Reply::BufferTooSmall => "The buffer for the image, or the list for its words, needs more room: 17,207 bytes or 4,096 words are enough for any. Both are as they were.",
         Reply::FieldPastRange => "The row to be written as a word has a form or a field that no word has, or numbers other than 0 after its fields. The word is as it was.",
         Reply::BadWalkRegisters => "A walk takes n 0 to 30, m 0 to 31, d and k 0 to 15 and a size 0 to 3, with n and m different, and d and k. State and list are as they were.",
-        Reply::ListTooShort => "The list needs a place for each position from Xn up to Xm. State and list are as they were.",
+        Reply::ListTooShort => "The list needs a place for each position from Xn up to Xm; a title to be folded has at most 4,096 units. State, list and title are as they were.",
         Reply::BudgetSpent => "The walk needs D + 3R + 2 instructions, for D positions in R vectors. The state and the list hold what was done so far, and the count is the budget.",
         Reply::UnsupportedForm => "The word may be an instruction that is not here, as one of a newer kernel, or none at all. The state is as it was.",
         Reply::NotMonotonic => "FFR takes a run of ones from bit 0, and no other predicate. State and FFR are as they were.",
@@ -31,7 +31,7 @@ mod tests {
     use super::*;
     use crate::commands::new::{LENGTHS, LEVELS};
     use crate::words::{grouped, numbers};
-    use plokamyr::{IMAGE_MAX, WORDS_MAX};
+    use plokamyr::{IMAGE_MAX, TITLE_MAX, WORDS_MAX};
 
     #[test]
     fn numbers_are_the_librarys() {
@@ -41,5 +41,6 @@ mod tests {
         has(Reply::NotAllowed, &grouped(WORDS_MAX as u64));
         has(Reply::BufferTooSmall, &grouped(WORDS_MAX as u64));
         has(Reply::BufferTooSmall, &grouped(IMAGE_MAX as u64));
+        has(Reply::ListTooShort, &grouped(TITLE_MAX as u64));
     }
 }
