@@ -270,13 +270,27 @@ impl Measure {
 mod tests {
     use super::*;
     use crate::style::Style;
+    use crate::words::grouped;
     use std::cell::RefCell;
     use std::rc::Rc;
 
     const TEXT: Form = Form { units: false, json: false };
     const UNITS: Form = Form { units: true, json: false };
     const JSON: Form = Form { units: false, json: true };
-    const TOO_LONG: &str = "list has fewer places than there are positions to visit (reply 11)";
+
+    fn too_long(line: u64, units: usize) -> String {
+        let refusal = "list has fewer places than there are positions to visit (reply 11)";
+        let units = grouped(units as u64);
+        format!("plokamyr: fold: line {line}: {refusal}: {units} units, and 4,096 are the most\n")
+    }
+
+    fn not_utf8_json(byte: u64) -> String {
+        format!(r#"{{"reply": null, "reason": "not UTF-8 at byte {byte}", "title": null}}"#)
+    }
+
+    fn title_json(title: &str) -> String {
+        format!(r#"{{"reply": 0, "title": "{title}"}}"#)
+    }
 
     /// An input that comes so many bytes at a time.
     struct Pieces<'a>(&'a [u8], usize);
@@ -331,12 +345,9 @@ mod tests {
             always(UNITS, input),
             (b"\xc9A\n0061\n\xe2\x82\r\n0062\nAB\xff".to_vec(), said.to_string(), REFUSED)
         );
-        let json = r#"{"reply": null, "reason": "not UTF-8 at byte 1", "title": null}
-{"reply": 0, "title": "a"}
-{"reply": null, "reason": "not UTF-8 at byte 1", "title": null}
-{"reply": 0, "title": "b"}
-{"reply": null, "reason": "not UTF-8 at byte 3", "title": null}"#;
-        let json = json.replacen("}\n{\"reply\": 0, \"title\": \"b\"", "}\r\n{\"reply\": 0, \"title\": \"b\"", 1);
+        let [first, last] = [1, 3].map(not_utf8_json);
+        let [a, b] = ["a", "b"].map(title_json);
+        let json = format!("{first}\n{a}\n{first}\r\n{b}\n{last}");
         assert_eq!(always(JSON, input), (json.into_bytes(), said.to_string(), REFUSED));
     }
 
@@ -348,9 +359,7 @@ mod tests {
                 let most = 4096 / units;
                 folds(&(c.repeat(most) + end), &(folded.repeat(most) + end));
                 let input = format!("B\n{}{end}", c.repeat(most + 1));
-                let said =
-                    format!("plokamyr: fold: line 2: {TOO_LONG}: {} units, and 4,096 are the most\n", 4096 + units)
-                        .replace(": 40", ": 4,0");
+                let said = too_long(2, 4096 + units);
                 let output = input.replacen('B', "b", 1).into_bytes();
                 assert_eq!(always(TEXT, input.as_bytes()), (output, said, REFUSED));
             }
@@ -363,15 +372,15 @@ mod tests {
         let long = "É𝄞".repeat(100_000);
         for end in ["\n", "\r\n", "\r\nA\n", "", "\r"] {
             let input = long.clone() + end;
-            let units = if end == "\r" { "300,001" } else { "300,000" };
-            let said = format!("plokamyr: fold: line 1: {TOO_LONG}: {units} units, and 4,096 are the most\n");
+            let units = if end == "\r" { 300_001 } else { 300_000 };
+            let said = too_long(1, units);
             let (out, notes, status) = always(TEXT, input.as_bytes());
             assert!(out == input.replace('A', "a").into_bytes() && status == REFUSED);
             assert_eq!(notes, said);
             let (out, notes, status) = always(JSON, input.as_bytes());
-            let refused =
-                format!(r#"{{"reply": 11, "reason": "{units} units, and 4,096 are the most", "title": null}}"#);
-            let more = end.replace('A', r#"{"reply": 0, "title": "a"}"#);
+            let reason = format!("{} units, and 4,096 are the most", grouped(units as u64));
+            let refused = format!(r#"{{"reply": 11, "reason": "{reason}", "title": null}}"#);
+            let more = end.replace('A', &title_json("a"));
             let more = more.strip_suffix('\r').unwrap_or(&more);
             assert_eq!(String::from_utf8(out).unwrap(), refused + more);
             assert_eq!((notes, status), (said, REFUSED));
@@ -386,8 +395,7 @@ mod tests {
     #[test]
     fn many_short_lines() {
         let (out, notes, status) = filtered(JSON, &mut Pieces(&b"\xff\nA\n".repeat(100_000), usize::MAX));
-        let lines = r#"{"reply": null, "reason": "not UTF-8 at byte 1", "title": null}"#.to_string()
-            + "\n{\"reply\": 0, \"title\": \"a\"}\n";
+        let lines = format!("{}\n{}\n", not_utf8_json(1), title_json("a"));
         assert!(out == lines.repeat(100_000).into_bytes() && status == REFUSED);
         assert_eq!(notes.lines().count(), 100_000);
         assert!(notes.ends_with("plokamyr: fold: line 199999: not UTF-8 at byte 1\n"));
