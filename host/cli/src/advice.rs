@@ -41,6 +41,6 @@ mod tests {
         has(Reply::NotAllowed, &grouped(WORDS_MAX as u64));
         has(Reply::BufferTooSmall, &grouped(WORDS_MAX as u64));
         has(Reply::BufferTooSmall, &grouped(IMAGE_MAX as u64));
-        has(Reply::ListTooShort, &grouped(plokamyr::TITLE_MAX as u64));
+        has(Reply::ListTooShort, &grouped(TITLE_MAX as u64));
     }
 }

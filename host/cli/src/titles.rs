@@ -1,13 +1,11 @@
 //! Titles folded by the library, and the forms in which they are written.
 
+use crate::commands::new::LENGTHS;
 use crate::json::Json;
 use crate::reason::told;
-use crate::words::{counted, grouped};
+use crate::words::{counted, grouped, numbers};
 use plokamyr::{fold, Reply, TITLE_MAX};
 use std::fmt;
-
-/// The vector lengths that the library takes. They are known here, so that what is typed is read without it.
-pub const LENGTHS: &str = "128, 256, 512, 1024 or 2048";
 
 /// Why a title is not folded.
 #[derive(Clone, Debug, PartialEq, Eq)]
@@ -71,7 +69,7 @@ impl Folder {
 
     fn refusal(&self, reply: Reply, units: u64) -> Refusal {
         let reason = match reply {
-            Reply::IllegalState => format!("--vl is {}: {LENGTHS} would do", self.vl),
+            Reply::IllegalState => format!("--vl is {}: {} would do", self.vl, numbers(&LENGTHS)),
             _ => format!("{}, and {} are the most", counted(units, "unit"), grouped(TITLE_MAX as u64)),
         };
         Refusal { reply: Some(reply), reason }
@@ -128,7 +126,6 @@ fn put_text(units: &[u16], out: &mut Vec<u8>) {
 #[cfg(test)]
 mod tests {
     use super::*;
-    use crate::words::numbers;
 
     fn folded(title: &str, form: Form) -> String {
         let mut out = Vec::new();
@@ -170,13 +167,7 @@ mod tests {
         );
         assert!(Folder::new(512).fold(&"é".repeat(4096)).is_ok());
         assert_eq!(refusal(384, &"é".repeat(4097)).reply, Some(Reply::IllegalState));
-        assert_eq!(refusal(384, "").reason, format!("--vl is 384: {LENGTHS} would do"));
+        assert_eq!(refusal(384, "").reason, format!("--vl is 384: {} would do", numbers(&LENGTHS)));
         assert_eq!(Refusal::not_utf8(4).to_string(), "not UTF-8 at byte 5");
-    }
-
-    #[test]
-    fn lengths_are_the_librarys() {
-        let lengths = (0..=4096).filter(|vl| Folder::new(u64::from(*vl)).fold("").is_ok());
-        assert_eq!(numbers(&lengths.collect::<Vec<_>>()), LENGTHS);
     }
 }

@@ -1,15 +1,17 @@
 use crate::args::Args;
+use crate::commands::new::LENGTHS;
 use crate::failure::{Failure, Outcome, DONE, REFUSED};
 use crate::filter::Filter;
 use crate::json::Json;
 use crate::style::Style;
-use crate::titles::{Folder, Form, Refusal, LENGTHS};
+use crate::titles::{Folder, Form, Refusal};
+use crate::words::numbers;
 
 /// The vector length without `--vl`.
 const BITS: u64 = 512;
 
 pub fn command(args: &Args, _: Style) -> Result<Outcome, Failure> {
-    let vl = super::number(args, "vl", LENGTHS)?.unwrap_or(BITS);
+    let vl = super::number(args, "vl", &numbers(&LENGTHS))?.unwrap_or(BITS);
     let form = Form { units: args.has("units"), json: args.has("json") };
     // what is refused of an empty title is refused of every one
     if let Err(refusal) = Folder::new(vl).fold("") {
