@@ -79,17 +79,17 @@ module _ (vl : ℕ) (t l after : List ℕ) (s : State) (r : Walked) where
         )
 
 -- what `fold` ensures, with its reply and the title at its end
-abbrev pub Folded : ℕ → List ℕ → List ℕ → Reply → Type 0
-Folded vl t last r = (r ≡ foldReply vl (length t)) × ((last ≡ foldOf vl (replicate longest 0) t) × (r ≡ Done → last ≡ map foldUnit t))
+abbrev pub FoldAnswers : ℕ → List ℕ → List ℕ → Reply → Type 0
+FoldAnswers vl t last r = (r ≡ foldReply vl (length t)) × ((last ≡ foldOf vl (replicate longest 0) t) × (r ≡ Done → last ≡ map foldUnit t))
 
 -- with 4,096 places
-pub long-list : (vl : ℕ) (t last : List ℕ) (r : Walked) → r ≡ titleAnswer vl (length t) (replicate longest 0) → last ≡ foldOf vl (replicate longest 0) t → Folded vl t last (r .reply)
+pub long-list : (vl : ℕ) (t last : List ℕ) (r : Walked) → r ≡ titleAnswer vl (length t) (replicate longest 0) → last ≡ foldOf vl (replicate longest 0) t → FoldAnswers vl t last (r .reply)
 long-list vl t last r er el =
     let told : r .reply ≡ foldReply vl (length t) = ap (λ (w : Walked). w .reply) er ∙ lent-folds vl t .reply in
     (told, (el, λ e. el ∙ fold-table vl t (sym told ∙ e)))
 
 -- with fewer, for a title that has a place for each unit
-pub short-list : (vl n : ℕ) (t last : List ℕ) (r : Walked) → n ≤ longest → length t ≤ n → r ≡ titleAnswer vl (length t) (replicate n 0) → last ≡ foldOf vl (replicate n 0) t → Folded vl t last (r .reply)
+pub short-list : (vl n : ℕ) (t last : List ℕ) (r : Walked) → n ≤ longest → length t ≤ n → r ≡ titleAnswer vl (length t) (replicate n 0) → last ≡ foldOf vl (replicate n 0) t → FoldAnswers vl t last (r .reply)
 short-list vl n t last r h fits er el =
     let (reply, title) = fold-any-list vl (replicate n 0) t (omega arith) (rw (length-replicate {A = ℕ} n 0) fits) in
     let told : r .reply ≡ foldReply vl (length t) = ap (λ (w : Walked). w .reply) er ∙ reply ∙ lent-folds vl t .reply in

@@ -111,18 +111,18 @@ module _ (vl units : ℕ) (l : List ℕ) where
   abbrev s : State
   s = titleState vl units
 
+  -- a refusal of the walk is the reply
+  refused-by : (r : Reply) → isDone r ≡ false → refusalOf 1 0 1 0 1 s (length l) ≡ r → titleAnswer vl units l .reply ≡ r
+  refused-by r not-done e = ap (λ (w : Walked). w .reply) (answer-refused 1 0 1 0 1 budget s l (ap isDone e ∙ not-done)) ∙ e
+
   -- 4 for a vector length that is not allowed
-  refused-length : isLength vl ≡ false → titleAnswer vl units l ≡ record { reply = IllegalState; count = 0; visited = 0; state = s }
-  refused-length e =
-      let no : refusalOf 1 0 1 0 1 s (length l) ≡ IllegalState = refused-4 1 0 1 0 1 s (length l) (title-legal vl units false e) in
-      answer-refused 1 0 1 0 1 budget s l (ap isDone no) ∙ ap (λ (r : Reply). record { reply = r; count = 0; visited = 0; state = s }) no
+  refused-length : isLength vl ≡ false → titleAnswer vl units l .reply ≡ IllegalState
+  refused-length e = refused-by IllegalState refl (refused-4 1 0 1 0 1 s (length l) (title-legal vl units false e))
 
   module _ (e : isLength vl ≡ true) where
     -- 11 for more units than there are places
-    refused-long : length l < units → titleAnswer vl units l ≡ record { reply = ListTooShort; count = 0; visited = 0; state = s }
-    refused-long h =
-        let no : refusalOf 1 0 1 0 1 s (length l) ≡ ListTooShort = refused-11 1 0 1 0 1 s (length l) (title-legal vl units true e) registers (omega arith) refl (rw (sub-zero units) h) in
-        answer-refused 1 0 1 0 1 budget s l (ap isDone no) ∙ ap (λ (r : Reply). record { reply = r; count = 0; visited = 0; state = s }) no
+    refused-long : length l < units → titleAnswer vl units l .reply ≡ ListTooShort
+    refused-long h = refused-by ListTooShort refl (refused-11 1 0 1 0 1 s (length l) (title-legal vl units true e) registers (omega arith) refl (rw (sub-zero units) h))
 
     module _ (fits : units ≤ length l) (few : units ≤ longest) where
       accepted : refusalOf 1 0 1 0 1 s (length l) ≡ Done
@@ -153,43 +153,43 @@ pub record Folds (vl : ℕ) (l t : List ℕ) : Type 0 where
   pub reply : titleAnswer vl (length t) l .reply ≡ foldReply vl (length t)
   pub title : foldOf vl l t ≡ pick (isDone (foldReply vl (length t))) (map foldUnit t) t
 
+-- `foldReply` by its two tests: the length is allowed; the title is too long
+abbrev told : Bool → Bool → Reply
+told allowed long = pick (not allowed) IllegalState (pick long ListTooShort Done)
+
 module _ (vl : ℕ) (l t : List ℕ) where
   abbrev byWalk : Bool → List ℕ
   byWalk done = pick done (foldedFirst (titleList vl (length t) l) (titleAnswer vl (length t) l .visited) t) t
 
   refused : (r : Reply) → isDone r ≡ false → titleAnswer vl (length t) l .reply ≡ r → foldReply vl (length t) ≡ r → Folds vl l t
   unfolding foldOf
-  refused r not-done answered told = record {
-    reply = answered ∙ sym told;
-    title = ap byWalk (ap isDone answered ∙ not-done) ∙ sym (ap (λ (b : Bool). pick b (map foldUnit t) t) (ap isDone told ∙ not-done));
+  refused r not-done answered is = record {
+    reply = answered ∙ sym is;
+    title = ap byWalk (ap isDone answered ∙ not-done) ∙ sym (ap (λ (b : Bool). pick b (map foldUnit t) t) (ap isDone is ∙ not-done));
   }
 
   done : isLength vl ≡ true → length t ≤ length l → length t ≤ longest → foldReply vl (length t) ≡ Done → Folds vl l t
   unfolding foldOf
-  done e fits few told =
+  done e fits few is =
       let (answered, visited, positions) = all-visited vl (length t) l e fits few in
       record {
-        reply = answered ∙ sym told;
+        reply = answered ∙ sym is;
         title =
             ap (λ (r : Reply). byWalk (isDone r)) answered ∙ ap (λ (n : ℕ). foldedFirst (titleList vl (length t) l) n t) visited
-            ∙ all-units (titleList vl (length t) l) t positions ∙ sym (ap (λ (r : Reply). pick (isDone r) (map foldUnit t) t) told);
+            ∙ all-units (titleList vl (length t) l) t positions ∙ sym (ap (λ (r : Reply). pick (isDone r) (map foldUnit t) t) is);
       }
 
   pub folds : Room (length t) l → Folds vl l t
   folds room = by-length (isLength vl) refl
     where
       by-length : (b : Bool) → isLength vl ≡ b → Folds vl l t
-      by-length false e =
-          refused IllegalState refl (ap (λ (w : Walked). w .reply) (refused-length vl (length t) l e)) (ap (λ (b : Bool). pick (not b) IllegalState (pick (ltb longest (length t)) ListTooShort Done)) e)
+      by-length false e = refused IllegalState refl (refused-length vl (length t) l e) (ap (λ (b : Bool). told b (ltb longest (length t))) e)
       by-length true e =
-          let past : foldReply vl (length t) ≡ pick (ltb longest (length t)) ListTooShort Done = ap (λ (b : Bool). pick (not b) IllegalState (pick (ltb longest (length t)) ListTooShort Done)) e in
           elim (decLt longest (length t)) [
-            | yes h ↦
-                refused ListTooShort refl (ap (λ (w : Walked). w .reply) (refused-long vl (length t) l e (room .not-for-more h)))
-                (past ∙ ap (λ (b : Bool). pick b ListTooShort Done) (lt-ltb longest (length t) h))
+            | yes h ↦ refused ListTooShort refl (refused-long vl (length t) l e (room .not-for-more h)) (ap₂ told e (lt-ltb longest (length t) h))
             | no h ↦
                 let few : length t ≤ longest = omega arith in
-                done e (room .for-each few) few (past ∙ ap (λ (b : Bool). pick b ListTooShort Done) (le-ltb longest (length t) few))
+                done e (room .for-each few) few (ap₂ told e (le-ltb longest (length t) few))
           ]
 
 -- ---- the theorems
@@ -220,7 +220,7 @@ fold-any-list vl l t few fits =
 -- two allowed vector lengths give the same answer and the same title
 pub fold-lengths : (v w : ℕ) (t : List ℕ) → isLength v ≡ true → isLength w ≡ true → (foldReply v (length t) ≡ foldReply w (length t)) × (foldOf v places t ≡ foldOf w places t)
 fold-lengths v w t a b =
-    let same : foldReply v (length t) ≡ foldReply w (length t) = ap (λ (b : Bool). pick (not b) IllegalState (pick (ltb longest (length t)) ListTooShort Done)) (a ∙ sym b) in
+    let same : foldReply v (length t) ≡ foldReply w (length t) = ap (λ (b : Bool). told b (ltb longest (length t))) (a ∙ sym b) in
     (same, lent-folds v t .title ∙ ap (λ (r : Reply). pick (isDone r) (map foldUnit t) t) same ∙ sym (lent-folds w t .title))
 
 map-twice : (t : List ℕ) → map foldUnit (map foldUnit t) ≡ map foldUnit t
@@ -233,7 +233,7 @@ fold-twice v w t e =
     elim (decLt longest (length t)) [
       | yes h ↦ ap (foldOf w places) (stays v h) ∙ stays w h ∙ sym (stays v h)
       | no h ↦
-          let folded : foldOf v places t ≡ map foldUnit t = fold-table v t (ap₂ (λ (a b : Bool). pick (not a) IllegalState (pick b ListTooShort Done)) e (le-ltb longest (length t) (omega arith))) in
+          let folded : foldOf v places t ≡ map foldUnit t = fold-table v t (ap₂ told e (le-ltb longest (length t) (omega arith))) in
           ap (foldOf w places) folded ∙ lent-folds w (map foldUnit t) .title ∙ either (isDone (foldReply w (length (map foldUnit t)))) ∙ sym folded
     ]
   where
@@ -241,7 +241,7 @@ fold-twice v w t e =
     either true = map-twice t
     either false = refl
 
-    never-done : (b : Bool) → isDone (pick b IllegalState ListTooShort) ≡ false
+    never-done : (b : Bool) → isDone (told b true) ≡ false
     never-done true = refl
     never-done false = refl
 
@@ -249,7 +249,7 @@ fold-twice v w t e =
     stays vl h =
         lent-folds vl t .title
         ∙ ap (λ (b : Bool). pick b (map foldUnit t) t)
-        (ap (λ (b : Bool). isDone (pick (not (isLength vl)) IllegalState (pick b ListTooShort Done))) (lt-ltb longest (length t) h) ∙ never-done (not (isLength vl)))
+        (ap (λ (b : Bool). isDone (told (isLength vl) b)) (lt-ltb longest (length t) h) ∙ never-done (isLength vl))
 
 -- the units that the paper names
 abbrev kept : List ℕ

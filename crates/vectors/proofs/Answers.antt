@@ -7,7 +7,7 @@ use native.Mathlib.Nat.{le-of-suc-le-suc, not-suc-le-zero}
 use native.Mathlib.Omega.{arith}
 use lib.Dec.{T, eqb}
 use lib.ListN.{length, take, drop, getD, replicate, length-drop, length-replicate}
-use lib.Seq.{take-at}
+use lib.Seq.{ext-getD, take-at}
 use borrow.Author.Tests.{eq-eqb, not-false}
 use Rattle.bits.specs.Choice.{pick}
 use Rattle.replies.specs.declared.Reply.{Reply}
@@ -30,8 +30,8 @@ use Rattle.octets.specs.Bytes.{value, parts, over}
 use Rattle.image.specs.Image.{imageOf}
 use Rattle.image.specs.Reading.{imageReply, stateOf, wordsOf, countOf, contentOf, wordsAt, blank, readOf, listAfter}
 use Rattle.image.specs.Writing.{writeReply, writtenOf, bufferAfter}
-use Rattle.octets.proofs.Bytes.{length-parts}
-use Rattle.vectors.specs.Records.{numberAt, block, pastBlock, ranOf, RunAgrees, ImageAgrees, walkedOf, listOf, Walks, unset, WalkAgrees, turnOf, steppedOf, StepAgrees, Folds, TitleAgrees}
+use Rattle.octets.proofs.Bytes.{length-parts, parts-at}
+use Rattle.vectors.specs.Records.{numberAt, block, pastBlock, ranOf, RunAgrees, ImageAgrees, walkedOf, listOf, Walks, unset, WalkAgrees, turnOf, steppedOf, StepAgrees, TitleFolds, TitleAgrees}
 
 pub never : {A : Type 0} → false ≡ true → A
 never e = absurd (subst T (sym e) tt)
@@ -221,12 +221,17 @@ step-agrees rest image list filled ws asked end last r st after n word m b room 
       after = ap (λ (x : Stepped). imageOf (x .shared .state) []) (sym is) ∙ h ∙ el ∙ ap block (ee ∙ ap (drop 4) ea);
     }
 
+-- ---- a list or a title beside bytes, k for each item
+
+pub all-parts : (k : ℕ) (l bs : List ℕ) → ((i : ℕ) → i < length l → getD l i 0 ≡ value (take k (drop (i * k) bs))) → l ≡ parts value k (length l) bs
+all-parts k l bs h = ext-getD 0 l (parts value k (length l) bs) (sym (length-parts value k (length l) bs)) (λ i below. h i below ∙ sym (parts-at value k (length l) i bs 0 below))
+
 -- ---- a title
 
 pub title-is : (rest before title after bs end : List ℕ) (vl : ℕ) (r : Reply) (n b : ℕ)
     → bs ≡ drop 13 rest → title ≡ parts value 2 (length before) bs → vl ≡ numberAt 0 8 rest → r ≡ foldReply vl (length title) → after ≡ foldOf vl (replicate longest 0) title
     → n ≡ numberOf r → b ≡ getD rest 12 0 → n ≡ b → length after ≡ length before → end ≡ drop (length after * 2 + 13) rest → after ≡ parts value 2 (length after) end
-    → Folds rest (length before)
+    → TitleFolds rest (length before)
 title-is rest before title after bs end vl r n b ebs et ev er ea en eb tb same ee h =
     let is : title ≡ parts value 2 (length before) (drop 13 rest) = et ∙ ap (parts value 2 (length before)) ebs in
     let long : length title ≡ length before = ap length et ∙ length-parts value 2 (length before) bs in
@@ -236,10 +241,10 @@ title-is rest before title after bs end vl r n b ebs et ev er ea en eb tb same e
           ∙ ap (parts value 2 (length before)) (ee ∙ ap (λ (k : ℕ). drop (k * 2 + 13) rest) same);
     }
 
-pub title-agrees : (rest : List ℕ) (units most : ℕ) → units ≡ numberAt 8 4 rest → units ≤ most → Folds rest (length (take units (replicate {A = ℕ} most 0))) → TitleAgrees rest
+pub title-agrees : (rest : List ℕ) (units most : ℕ) → units ≡ numberAt 8 4 rest → units ≤ most → TitleFolds rest (length (take units (replicate {A = ℕ} most 0))) → TitleAgrees rest
 title-agrees rest units most eu h f =
     let long : length (take units (replicate {A = ℕ} most 0)) ≡ numberAt 8 4 rest = ap length (take-replicate units most 0 h) ∙ length-replicate {A = ℕ} units 0 ∙ eu in
-    subst (Folds rest) long f
+    subst (TitleFolds rest) long f
 
 -- ---- the records left: each has its kind at least
 

@@ -93,12 +93,12 @@ pub record StepAgrees (rest : List ℕ) : Type 0 where
 -- ---- a title: vl (8), how many units (4), reply (1), the title and the title after (2 bytes a unit)
 
 -- a title of so many units, folded as the record says
-pub record Folds (rest : List ℕ) (units : ℕ) : Type 0 where
+pub record TitleFolds (rest : List ℕ) (units : ℕ) : Type 0 where
   pub reply : numberOf (foldReply (numberAt 0 8 rest) units) ≡ getD rest 12 0
   pub after : foldOf (numberAt 0 8 rest) (replicate longest 0) (parts value 2 units (drop 13 rest)) ≡ parts value 2 units (drop (units * 2 + 13) rest)
 
 abbrev pub TitleAgrees : List ℕ → Type 0
-TitleAgrees rest = Folds rest (numberAt 8 4 rest)
+TitleAgrees rest = TitleFolds rest (numberAt 8 4 rest)
 
 -- ---- a record, by its kind
 

@@ -8,7 +8,7 @@ ghost use lib.ListN.{length, take, getD};
 ghost use Rattle.octets.specs.Bytes.{value, parts};
 ghost use Rattle.predicates.specs.PredTest.{flagsOf};
 ghost use Rattle.image.specs.Image.{imageOf};
-ghost use Rattle.vectors.specs.Records.{block as blockOf, pastBlock, RunAgrees, ImageAgrees, Walks, WalkAgrees, turnOf, StepAgrees, Folds, TitleAgrees, Agrees};
+ghost use Rattle.vectors.specs.Records.{block as blockOf, pastBlock, RunAgrees, ImageAgrees, Walks, WalkAgrees, turnOf, StepAgrees, TitleFolds, TitleAgrees, Agrees};
 use libc::STDIN_FILENO;
 use libc::STDOUT_FILENO;
 use machine::Machine;
@@ -44,12 +44,9 @@ struct Score {
     all: u64,
 }
 
+// The scores of all kinds: that of kind k is at k - 1.
 struct Tally {
-    runs: Score,
-    images: Score,
-    walks: Score,
-    steps: Score,
-    titles: Score,
+    scores: [Score; 5],
 }
 
 fn main() {
@@ -64,28 +61,18 @@ fn judge(mut bytes: [u8; 920000]) {
         return;
     }
     let tally = compare(&bytes[..length]);
-    let runs = tally.runs;
-    say_score(b"runs ", runs);
-    let images = tally.images;
-    say_score(b"images ", images);
-    let walks = tally.walks;
-    say_score(b"walks ", walks);
-    let steps = tally.steps;
-    say_score(b"steps ", steps);
-    let titles = tally.titles;
-    say_score(b"titles ", titles);
+    let scores = tally.scores;
+    say_score(b"runs ", scores[0]);
+    say_score(b"images ", scores[1]);
+    say_score(b"walks ", scores[2]);
+    say_score(b"steps ", scores[3]);
+    say_score(b"titles ", scores[4]);
 }
 
 // The records one after the other, to the end or to the first that is malformed.
 fn compare(bytes: &[u8]) -> Tally {
     let none = Score { agree: 0, all: 0 };
-    let mut tally = Tally {
-        runs: none,
-        images: none,
-        walks: none,
-        steps: none,
-        titles: none,
-    };
+    let mut tally = Tally { scores: [none; 5] };
     let mut number = 0;
     let mut left = bytes;
     while 0 < left.len() {
@@ -131,54 +118,16 @@ impl Score {
 
 impl Tally {
     fn counted(self, kind: u8, agrees: bool) -> Tally {
-        let runs = self.runs;
-        let images = self.images;
-        let walks = self.walks;
-        let steps = self.steps;
-        let titles = self.titles;
-        if kind == RUN {
-            return Tally {
-                runs: runs.scored(agrees),
-                images,
-                walks,
-                steps,
-                titles,
-            };
+        if kind < RUN {
+            return self;
         }
-        if kind == IMAGE {
-            return Tally {
-                runs,
-                images: images.scored(agrees),
-                walks,
-                steps,
-                titles,
-            };
+        if TITLE < kind {
+            return self;
         }
-        if kind == WALK {
-            return Tally {
-                runs,
-                images,
-                walks: walks.scored(agrees),
-                steps,
-                titles,
-            };
-        }
-        if kind == STEP {
-            return Tally {
-                runs,
-                images,
-                walks,
-                steps: steps.scored(agrees),
-                titles,
-            };
-        }
-        Tally {
-            runs,
-            images,
-            walks,
-            steps,
-            titles: titles.scored(agrees),
-        }
+        let mut scores = self.scores;
+        let i = (kind - RUN) as usize;
+        scores[i] = scores[i].scored(agrees);
+        Tally { scores }
     }
 }
 
@@ -546,7 +495,7 @@ fn title_agrees(rest: &[u8]) -> bool
 // Whether the title of a record, which is put in the lent one first, is folded as the record says.
 fn title_is(rest: &[u8], title: &mut [u16]) -> bool
     requires { ⌜ length (now title) ≤ 4097 ⌝ }
-    ensures { λ r. ⌜ (r ≡ true → Folds (now (rest .entry)) (length (now (title .entry)))) ⌝ }
+    ensures { λ r. ⌜ (r ≡ true → TitleFolds (now (rest .entry)) (length (now (title .entry)))) ⌝ }
 {
     put_units(octets::after(rest, 13), title);
     let reply = fold::fold(title, octets::number_at(rest, 0, 8));
