@@ -208,6 +208,8 @@ pub number-only : (at n i : ℕ) → i < n → number (λ b. eqb b (at + i)) at 
 unfolding number
 number-only at zero i h = absurd (omega arith)
 number-only at (suc n) zero h =
-    rw (add-zero at, number-none (λ b. eqb b at) (suc at) n (λ j l. ne_eqb (suc at + j) at (omega arith)), eq-eqb at at refl)
+    rw (number-none (λ b. eqb b (at + 0)) (suc at) n (λ j l. ne_eqb (suc at + j) (at + 0) (omega arith)), eq-eqb at (at + 0) (sym (add-zero at)))
 number-only at (suc n) (suc i) h =
-    rw (add-suc at i, ← suc-add at i, number-only (suc at) n i (omega arith), ne_eqb at (suc at + i) (omega arith), pow-suc 2 i) (omega arith)
+    let e : number (λ b. eqb b (at + suc i)) (suc at) n ≡ 2 ^ i =
+    ap (λ (k : ℕ). number (λ b. eqb b k) (suc at) n) (add-suc at i ∙ sym (suc-add at i)) ∙ number-only (suc at) n i (omega arith) in
+    rw (e, ne_eqb at (at + suc i) (omega arith), pow-suc 2 i) (omega arith)

@@ -1,4 +1,5 @@
 // The library as C calls it: include/plokamyr.h declares these functions, and says of each what it answers, in which order it refuses and what it leaves. Replies are numbers.
+#![tactic(auto)]
 ghost use Rattle.std.specs.Prelude.{map, ◌≡◌, length, replicate};
 ghost use Rattle.replies.specs.declared.Reply.TheVariants.{Done};
 ghost use Rattle.replies.specs.Reply.{number_of};
@@ -22,7 +23,7 @@ use shared::{Kernel, Shared};
 use words::{Decoded, Encoded};
 
 #[repr(C)]
-#[derive(Drop)]
+#[derive(Clone, Copy)]
 pub struct Ran {
     pub reply: u32,
     pub refused: u32,
@@ -30,7 +31,7 @@ pub struct Ran {
 }
 
 #[repr(C)]
-#[derive(Drop)]
+#[derive(Clone, Copy)]
 pub struct Walked {
     pub reply: u32,
     pub count: u64,
@@ -39,14 +40,14 @@ pub struct Walked {
 }
 
 #[repr(C)]
-#[derive(Drop)]
+#[derive(Clone, Copy)]
 pub struct SharedStepped {
     pub reply: u32,
     pub shared: Shared,
 }
 
 #[repr(C)]
-#[derive(Drop)]
+#[derive(Clone, Copy)]
 pub struct SharedWalked {
     pub reply: u32,
     pub count: u64,
@@ -55,7 +56,7 @@ pub struct SharedWalked {
 }
 
 #[repr(C)]
-#[derive(Drop)]
+#[derive(Clone, Copy)]
 pub struct Reading {
     pub reply: u32,
     pub count: usize,
@@ -63,7 +64,7 @@ pub struct Reading {
 }
 
 #[repr(C)]
-#[derive(Drop)]
+#[derive(Clone, Copy)]
 pub struct Written {
     pub reply: u32,
     pub length: usize,

@@ -3,6 +3,7 @@
 // is too short. The writer refuses 4, then 6 for more than 4,096 words, then 8 for a buffer that is too small. A refusal touches neither list nor buffer, and places past what is written stay.
 // An old image has no section for FFR: it is read with FFR all false. The writer writes new images only. Reading what was written gives that state and those words; writing what was read gives
 // the same bytes for a new image, and for an old one the new image of that state and those words.
+#![tactic(auto)]
 ghost use Rattle.std.specs.Prelude.{◌≡◌, length};
 ghost use Rattle.image.specs.Sections.{largest_image};
 ghost use Rattle.image.specs.Reading.{read_of, list_after};
@@ -25,7 +26,7 @@ pub fn largest() -> usize
     LARGEST
 }
 
-#[derive(Drop)]
+#[derive(Clone, Copy)]
 pub struct Reading {
     pub reply: Reply,
     pub state: State,
@@ -33,7 +34,7 @@ pub struct Reading {
     pub count: usize,
 }
 
-#[derive(Drop)]
+#[derive(Clone, Copy)]
 pub struct Written {
     pub reply: Reply,
     // How many bytes the image has.

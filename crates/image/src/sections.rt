@@ -21,7 +21,7 @@ pub const WORDS: usize = 5;
 pub const SECTIONS: usize = 6;
 
 // The range of a section's count, the bytes of an item, and whether it may be missing.
-#[derive(Drop)]
+#[derive(Clone, Copy)]
 pub struct Shape {
     pub lowest: usize,
     pub highest: usize,

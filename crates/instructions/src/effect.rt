@@ -7,7 +7,7 @@ use predicates::Predicate;
 
 // A value for each register that an instruction can write, and the flags as the number NZCV: four bytes stored one by one stall the load that follows.
 // What it does not give is zero, and is written nowhere.
-#[derive(Drop)]
+#[derive(Clone, Copy)]
 pub struct Computed {
     pub pd: Predicate,
     pub pd2: Predicate,

@@ -11,7 +11,7 @@ use words::{Instruction, Target};
 const NONE: u8 = 255;
 
 // The numbers of registers. Those of numbers are whole words, so that none is packed beside another.
-#[derive(Drop)]
+#[derive(Clone, Copy)]
 pub struct Registers {
     // Read: Rn and Rm; Pg (PNEXT's Pv too), Pn (a Pdn too, and FFR where it is read) and Pm, with its counts.
     pub rn: u64,
@@ -27,7 +27,7 @@ pub struct Registers {
 }
 
 // What the registers hold that an instruction reads, under their names.
-#[derive(Drop)]
+#[derive(Clone, Copy)]
 pub struct Values {
     pub pg: Predicate,
     pub pn: Predicate,

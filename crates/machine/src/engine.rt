@@ -111,7 +111,7 @@ pub fn step(
 }
 
 // How a run went: its reply, the reply to the word it stopped at, and how many words were executed.
-#[derive(Drop)]
+#[derive(Clone, Copy)]
 pub struct Went {
     pub reply: Reply,
     pub refused: Reply,

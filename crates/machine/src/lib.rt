@@ -3,6 +3,7 @@
 // leaves the state as it was.
 // An accepted word executes its instruction: all registers are read before any is written, and nothing else is touched. A run answers for itself 0, or 4, and names the
 // reply to the word it stopped at.
+#![tactic(auto)]
 ghost use Rattle.std.specs.Prelude.{◌≡◌};
 ghost use Rattle.bits.specs.Choice.{pick};
 ghost use Rattle.predicates.specs.PredTest.{flags_of};
@@ -19,14 +20,14 @@ use registers::State;
 use replies::Reply;
 use words::{Decoded, Instruction};
 
-#[derive(Drop)]
+#[derive(Clone, Copy)]
 pub struct Stepped {
     pub reply: Reply,
     pub state: State,
 }
 
 // How many words were executed, the reply to the one after them, and the state that they left. The run's own reply is 0, or 4 for an illegal state.
-#[derive(Drop)]
+#[derive(Clone, Copy)]
 pub struct Ran {
     pub reply: Reply,
     pub refused: Reply,
@@ -35,7 +36,7 @@ pub struct Ran {
 }
 
 // The register state, handed in and handed back.
-#[derive(Drop)]
+#[derive(Clone, Copy)]
 pub struct Machine {
     pub state: State,
 }

@@ -1,4 +1,5 @@
 // Reads an image from standard input, steps its words until one is refused, and writes the lines to standard output.
+#![tactic(auto)]
 use libc::{STDIN_FILENO, STDOUT_FILENO};
 
 // One byte more than the largest image has tells a longer input. The text has at most 86,026 bytes.

@@ -1,6 +1,8 @@
 // Predicates of up to 256 bits, in four words, and what their elements say.
 // Element e of a size is true exactly if its lowest bit is 1; its other bits are ignored when read and zero when an element is written.
 // What lies past a vector's elements is masked away, so no function asks for a legal predicate. Flags are answered as the number NZCV.
+#![tactic(auto)]
+
 ghost use Rattle.std.specs.Prelude.{◌≡◌, false, not, ◌&&◌, ◌||◌, ◌+◌, ◌-◌, ◌*◌, ◌/◌, ◌^◌, ◌%◌, ◌<◌, min, eqb, get_or};
 ghost use Rattle.std.specs.Bool.{xor as xor_bits};
 ghost use Rattle.bits.specs.Bits.{test_bit, number};
@@ -14,13 +16,13 @@ use bits::Size;
 
 // A predicate register: bit b is bit b % 64 of word b / 64.
 #[repr(C)]
-#[derive(Drop)]
+#[derive(Clone, Copy)]
 pub struct Predicate {
     pub words: [u64; 4],
 }
 
 #[repr(C)]
-#[derive(Drop)]
+#[derive(Clone, Copy)]
 pub struct Flags {
     pub n: bool,
     pub z: bool,

@@ -3,6 +3,8 @@
 // Beside each of P0 to P15 its number of true elements at each size is kept: a write of a predicate works them out, and nothing else changes them.
 // X31, and any number past the last register, reads as zero or all false, and a write to it vanishes. A state is legal unless its vector length is none of the five, its level is above 3,
 // a predicate has a bit at or above VL/8, or a count is wrong: reply 4 refuses it. State's methods take the state by value and return it; `parts` has the same over registers lent one by one.
+#![tactic(auto)]
+
 ghost use Rattle.std.specs.Prelude.{◌≡◌, get_or, length};
 ghost use Rattle.bits.specs.Search.{some};
 ghost use Rattle.predicates.specs.Predicate.{bit_at, pack, all_false};
@@ -26,7 +28,7 @@ pub const PREDICATES: usize = 17;
 pub const COUNTED: usize = 16;
 
 #[repr(C)]
-#[derive(Drop)]
+#[derive(Clone, Copy)]
 pub struct State {
     // The vector length in bits.
     pub vl: u64,

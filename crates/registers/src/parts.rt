@@ -16,7 +16,7 @@ use tally::Counts;
 
 // What no instruction changes.
 #[repr(C)]
-#[derive(Drop)]
+#[derive(Clone, Copy)]
 pub struct Settings {
     // The vector length in bits.
     pub vl: u64,

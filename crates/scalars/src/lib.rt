@@ -1,6 +1,8 @@
 // What instructions do with general registers: WHILE's comparisons, and saturating sums.
 // An operand of a WHILE steps by one and wraps at its own width, 64 bits or 32; `held` tells how many comparisons hold before the first that fails.
 // A saturating sum stops at the ends of its own range, signed or unsigned, and is extended to 64 bits.
+#![tactic(auto)]
+
 ghost use Rattle.std.specs.Prelude.{◌≡◌, ◌+◌, ◌%◌, ◌≤◌, true, false, pos};
 ghost use Rattle.std.specs.Int.{w32, w64};
 ghost use Rattle.std.proofs.Common.{to_z, of_z};
@@ -11,7 +13,7 @@ ghost use Rattle.scalars.specs.Inside.{held_of};
 ghost use Rattle.scalars.specs.Saturate.{clamp, saturated, moved, saturating};
 
 // The comparison of a WHILE.
-#[derive(Drop)]
+#[derive(Clone, Copy)]
 pub enum Condition {
     Less,
     LessEqual,

@@ -1,5 +1,7 @@
 // The search for the next active element, element by element, with the contract of `Predicate::next_active`. Only the benchmark uses this crate: it times the two searches by
 // their functions for C, in which size is 0 to 3 and a larger number is taken for 3.
+#![tactic(auto)]
+
 ghost use Rattle.std.specs.Prelude.{◌≡◌};
 ghost use Rattle.bits.specs.Search.{first_from};
 ghost use Rattle.bits.specs.Size.{shift};

@@ -2,6 +2,7 @@
 // The first owns X0 to X15 and P0 to P7, the second X16 to X30 and P8 to P15; X31 is open to both, FFR to neither.
 // A kernel's step or walk is that of an ordinary state with this kernel's flags. One that names a register which is not its own, or touches FFR, is refused with 15:
 // a step refuses in the order 4, 1 or 13, 2, 3, 15, a walk in the order 4, 10, 2, 3, 15, 11, 12; a refusal but 12 leaves all as it was.
+#![tactic(auto)]
 ghost use Rattle.std.specs.Prelude.{◌≡◌, length};
 ghost use Rattle.replies.specs.declared.Reply.TheVariants.{Done};
 ghost use Rattle.words.specs.Words.{size_of, decode_of};
@@ -17,7 +18,7 @@ use registers::State;
 use replies::Reply;
 use words::Decoded;
 
-#[derive(Drop)]
+#[derive(Clone, Copy)]
 pub enum Kernel {
     First,
     Second,
@@ -25,20 +26,20 @@ pub enum Kernel {
 
 // The first kernel's flags are the state's, the second's stand beside it.
 #[repr(C)]
-#[derive(Drop)]
+#[derive(Clone, Copy)]
 pub struct Shared {
     pub state: State,
     pub second: Flags,
 }
 
-#[derive(Drop)]
+#[derive(Clone, Copy)]
 pub struct Stepped {
     pub reply: Reply,
     pub shared: Shared,
 }
 
 // How many instructions were executed, how many positions they visited, and the shared state after them.
-#[derive(Drop)]
+#[derive(Clone, Copy)]
 pub struct Walked {
     pub reply: Reply,
     pub count: u64,

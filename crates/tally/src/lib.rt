@@ -1,5 +1,7 @@
 // How many elements of a predicate are true, at each of the four sizes: the counts that a state keeps beside its P registers.
 // All four are worked out in one pass, as one number of four fields of sixteen bits: the bits of four words are added in fields that grow from two bits to eight, and the processor's count of ones is not asked for.
+#![tactic(auto)]
+
 ghost use Rattle.std.specs.Prelude.{true, false, ◌≡◌, ◌+◌, ◌*◌, ◌/◌, ◌%◌, ◌^◌, ◌<◌};
 ghost use Rattle.std.specs.Int.Bits.{bit_and};
 ghost use Rattle.tally.specs.Counts.{no_counts, counts_of, count_at};
@@ -11,7 +13,7 @@ use predicates::Predicate;
 
 // How many elements are true at each size.
 #[repr(C)]
-#[derive(Drop)]
+#[derive(Clone, Copy)]
 pub struct Counts {
     pub b: u16,
     pub h: u16,
@@ -144,7 +146,7 @@ fn join(d: u64, f: u64, g: u64, o: u64) -> u64
 }
 
 // The bits of the bytes of a predicate's words, added over its words in both halves of each byte.
-#[derive(Drop)]
+#[derive(Clone, Copy)]
 pub struct Planes {
     // Bits 0 and 4.
     pub fours: u64,

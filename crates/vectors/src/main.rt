@@ -1,5 +1,6 @@
 // Holds the library to stored vectors that a second program made: records on standard input, each with a kind (1 byte), the length of its
 // rest (4 bytes), and its rest. Numbers are little-endian; an image stands behind its length (4 bytes).
+#![tactic(auto)]
 ghost use Rattle.std.specs.Prelude.{true, [], ◌≡◌, ◌≤◌, length, take, get_or};
 ghost use Rattle.octets.specs.Bytes.{value, parts};
 ghost use Rattle.predicates.specs.PredTest.{flags_of};
@@ -33,14 +34,14 @@ const PLACES: usize = 512;
 const UNITS: usize = 4097;
 
 // How many records of a kind there were, and how many of them agree.
-#[derive(Drop)]
+#[derive(Clone, Copy)]
 struct Score {
     agree: u64,
     all: u64,
 }
 
 // The scores of all kinds: that of kind k is at k - 1.
-#[derive(Drop)]
+#[derive(Clone, Copy)]
 struct Tally {
     scores: [Score; 5],
 }

@@ -1,6 +1,7 @@
 // The walk: PFALSE Pk, then WHILELO Pd from Xn to Xm, PNEXT Pk through Pd, INCP Xn by Pd, repeated until no lane is left. Each instruction acts as a step executes it.
 // It refuses in this order: 4, 10, 2 (level 0), 3, 11; these change nothing. It is done exactly when the budget is at least D + 3R + 2; with less it answers 12, with the state after exactly
 // budget instructions and the positions written by then. Positions are written from the list's first place on; every other place stays.
+#![tactic(auto)]
 ghost use Rattle.std.specs.Prelude.{◌≡◌, length};
 ghost use Rattle.bits.specs.Choice.{pick};
 ghost use Rattle.replies.specs.declared.Reply.TheVariants.{Done, BudgetSpent};
@@ -14,7 +15,7 @@ use replies::Reply;
 use scalars::Condition;
 
 // The instruction to come.
-#[derive(Drop)]
+#[derive(Clone, Copy)]
 pub enum Phase {
     Pfalse,
     Whilelo,
@@ -23,7 +24,7 @@ pub enum Phase {
 }
 
 // How many instructions were executed, how many positions they visited, and the state after them.
-#[derive(Drop)]
+#[derive(Clone, Copy)]
 pub struct Walked {
     pub reply: Reply,
     pub count: u64,

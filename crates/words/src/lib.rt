@@ -2,6 +2,8 @@
 // The words of the table are ours and no others: any other is refused, with 1 if its bits 31:24 are not 00100101, and with 13 if they are. An instruction with a field past its range,
 // or a combination that its form leaves out, is refused with 9. An instruction written as a word reads back as itself, and every word that is taken is written back unchanged.
 // Between word and instruction lies a row of nine numbers: the form's, its fields from the highest bit down, zeros.
+#![tactic(auto)]
+
 ghost use Rattle.std.specs.Prelude.{◌≡◌};
 ghost use Rattle.words.specs.Words.{level_of, logic_has_word};
 
@@ -18,7 +20,7 @@ pub use row::row_of;
 pub use write::{encode, word_of};
 
 // What a WHILE writes: a predicate, the pair P(2 pd) and P(2 pd + 1), or the counter P(8 + pnd).
-#[derive(Drop)]
+#[derive(Clone, Copy)]
 pub enum Target {
     One { wide: bool, pd: u8 },
     Pair { pd: u8 },
@@ -26,7 +28,7 @@ pub enum Target {
 }
 
 // What predicate logic makes of two bits; BIC and ORN invert the second.
-#[derive(Drop)]
+#[derive(Clone, Copy)]
 pub enum Operation {
     And,
     Bic,
@@ -38,7 +40,7 @@ pub enum Operation {
     Nand,
 }
 
-#[derive(Drop)]
+#[derive(Clone, Copy)]
 pub enum Instruction {
     While {
         condition: Condition,
@@ -118,14 +120,14 @@ pub enum Instruction {
 }
 
 // What a word is.
-#[derive(Drop)]
+#[derive(Clone, Copy)]
 pub enum Decoded {
     Ours(Instruction),
     Refused(Reply),
 }
 
 // How an instruction is written.
-#[derive(Drop)]
+#[derive(Clone, Copy)]
 pub enum Encoded {
     Word(u32),
     Refused(Reply),

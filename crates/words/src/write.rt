@@ -10,7 +10,7 @@ use super::{Encoded, Instruction};
 use replies::Reply;
 
 // The fixed bits of a form's word, and the lowest bit and width of each of its fields; a row's numbers past them have width 0.
-#[derive(Drop)]
+#[derive(Clone, Copy)]
 struct Places {
     fixed: u32,
     low: [u8; 8],

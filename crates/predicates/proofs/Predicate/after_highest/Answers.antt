@@ -1,0 +1,47 @@
+-- `Predicate::after_highest` meets its contract: the highest bit lies in the highest word that is not 0. Assumes nothing.
+use mathlib.Core.Logic.{inl, inr}
+use mathlib.Core.Path.{refl}
+use native.Mathlib.Omega.{arith}
+use borrow.Author.Rules.{rules}
+use Rattle.bits.specs.Bits.{test_bit}
+use Rattle.bits.proofs.Searches.{last_le}
+use Rattle.predicates.specs.Words.{Words}
+use Rattle.predicates.proofs.WordSearch.{highest_in, last_in, above_three, above_pred}
+use Rattle.predicates.proofs.Words.{words_of, word}
+use Rattle.predicates.proofs.Predicate.after_highest.Goals as goal
+
+pub overflow_add-result : goal.overflow_add-result
+overflow_add-result c = omega (arith, last_le (test_bit (word c.args.self 3)) 64)
+
+pub returns-then-w-ne0 : goal.returns-then-w-ne0
+returns-then-w-ne0 c =
+    let p = c.args.self in
+    let ok : Words p = search (rules, words_of) in
+    highest_in p 3 _ (omega arith) (above_three p ok) (inl (last_in _ (ok.fit 3) c.if-w-ne0.true)) (omega arith)
+
+pub overflow_add-result-then-w-ne0-2 : goal.overflow_add-result-then-w-ne0-2
+overflow_add-result-then-w-ne0-2 c = omega (arith, last_le (test_bit (word c.args.self 2)) 64)
+
+pub returns-then-w-ne0-2 : goal.returns-then-w-ne0-2
+returns-then-w-ne0-2 c =
+    let p = c.args.self in
+    let ok : Words p = search (rules, words_of) in
+    highest_in p 2 _ (omega arith) (above_pred p 2 (above_three p ok) c.if-w-ne0.false) (inl (last_in _ (ok.fit 2) c.if-w-ne0-2.true)) (omega arith)
+
+pub overflow_add-result-then-w-ne0-3 : goal.overflow_add-result-then-w-ne0-3
+overflow_add-result-then-w-ne0-3 c = omega (arith, last_le (test_bit (word c.args.self 1)) 64)
+
+pub returns-then-w-ne0-3 : goal.returns-then-w-ne0-3
+returns-then-w-ne0-3 c =
+    let p = c.args.self in
+    let ok : Words p = search (rules, words_of) in
+    highest_in p 1 _ (omega arith) (above_pred p 1 (above_pred p 2 (above_three p ok) c.if-w-ne0.false) c.if-w-ne0-2.false)
+    (inl (last_in _ (ok.fit 1) c.if-w-ne0-3.true)) (omega arith)
+
+pub returns : goal.returns
+returns c =
+    let p = c.args.self in
+    let ok : Words p = search (rules, words_of) in
+    highest_in p 0 _ (omega arith)
+    (above_pred p 0 (above_pred p 1 (above_pred p 2 (above_three p ok) c.if-w-ne0.false) c.if-w-ne0-2.false) c.if-w-ne0-3.false)
+    (inr refl) (omega arith)

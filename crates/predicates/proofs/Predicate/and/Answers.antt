@@ -1,0 +1,11 @@
+-- `Predicate::and` meets its contract: AND of words is `&&` of bits. Assumes nothing.
+use mathlib.Core.Bool.{◌&&◌}
+use Prim.Native.Nat.{ℕ}
+use lib.Bits.{bit_and}
+use borrow.Author.Rules.{rules}
+use Rattle.bits.proofs.Bits.{number-and}
+use Rattle.predicates.proofs.Words.{words_of, pack-op}
+use Rattle.predicates.proofs.Predicate.and.Goals as goal
+
+pub returns : goal.returns
+returns c = pack-op ◌&&◌ bit_and (λ f g (at : ℕ). number-and f g at 64) c.args.self c.args.other (search (rules, words_of)) (search (rules, words_of))

@@ -1,0 +1,10 @@
+-- `held32` meets its contract. Before turn i the operand is that of comparison i, and the first that fails is sought from i on. Assumes nothing.
+use Rattle.std.proofs.Common.{◌-◌, w32}
+use Rattle.scalars.proofs.Comparisons.{At}
+use Rattle.scalars.proofs.held32.Given as goal
+
+abbrev pub invariant-loop-i : goal.invariant-loop-i
+invariant-loop-i l = At w32 l.unsigned l.condition l.a l.b l.n l.operand l.i
+
+abbrev pub decreases-loop-i : goal.decreases-loop-i
+decreases-loop-i l = l.n - l.i
