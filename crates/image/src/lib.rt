@@ -4,6 +4,7 @@
 // An old image has no section for FFR: it is read with FFR all false. The writer writes new images only. Reading what was written gives that state and those words; writing what was read gives
 // the same bytes for a new image, and for an old one the new image of that state and those words.
 #![tactic(auto)]
+
 ghost use Rattle.std.specs.Prelude.{◌≡◌, length};
 ghost use Rattle.image.specs.Sections.{largest_image};
 ghost use Rattle.image.specs.Reading.{read_of, list_after};

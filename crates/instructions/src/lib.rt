@@ -1,6 +1,7 @@
 // What each instruction does: which registers it names, and what it gives from the values of those that it reads and the vector length.
 // An effect is values alone: `registers_of` says where they are written, so that an instruction touches nothing else. PFALSE, logic without S, everything that writes X, and of the forms on FFR all but RDFFRS keep the flags.
 #![tactic(auto)]
+
 ghost use Rattle.std.specs.Prelude.{◌≡◌};
 ghost use Rattle.instructions.specs.Effect.{computed};
 ghost use Rattle.instructions.specs.Instructions.{while_of, compute_of};
