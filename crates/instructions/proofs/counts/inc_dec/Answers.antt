@@ -9,9 +9,9 @@ pub returns-then-decrement : goal.returns-then-decrement
 unfolding inc_dec_of
 returns-then-decrement c =
     x_is _ _ _ c.gives_x.ensures
-    (dec_is c.args.decrement c.args.rdn c.args.n _ c.if-decrement.true (search rules) c.ranges.rdn.fits c.wrapping_sub_u64.type_inv c.wrapping_sub_u64.ensures)
+    (dec_is c.args.decrement c.args.rdn c.args.n _ c.if-decrement.true (search rules) c.ranges.rdn.fits c.wrapping_sub_u64.type_inv c.wrapping_sub_u64.ensures.value)
 
 pub returns : goal.returns
 unfolding inc_dec_of
 returns c =
-    x_is _ _ _ c.gives_x-2.ensures (inc_is c.args.decrement c.args.rdn c.args.n _ c.if-decrement.false c.wrapping_add_u64.ensures)
+    x_is _ _ _ c.gives_x-2.ensures (inc_is c.args.decrement c.args.rdn c.args.n _ c.if-decrement.false c.wrapping_add_u64.ensures.value)
