@@ -6,7 +6,7 @@ use native.Mathlib.Omega.{arith}
 use lib.ListN.{length, get_or}
 use Rattle.replies.specs.Reply.{number_of}
 use Rattle.replies.specs.declared.Reply.{Reply}
-use Rattle.replies.specs.declared.Reply.TheVariants.{Done, ForeignWord, LevelTooLow, AccessOff, IllegalState, UnsupportedForm, NotMonotonic}
+use Rattle.replies.specs.declared.Reply.TheVariants.{Done, ForeignWord, LevelTooLow, AccessOff, IllegalState, UnsupportedForm, NotMonotonic, BadWalkRegisters, BudgetSpent, BufferTooSmall, FieldPastRange, ImageCut, ListTooShort, NotAllowed, NotOwned, TrailingBytes}
 use Rattle.registers.specs.declared.State.{State}
 use Rattle.registers.specs.State.{ffr, read_p}
 use Rattle.words.specs.declared.Decoded.TheVariants.{Ours}
@@ -69,3 +69,12 @@ ffr_kept s w l a b = go (step_of s w).reply refl ((exactly_when s w (step_of s w
     go Done e (done i ok h k x m) =
         let (p, q) = not_named i (written_read w i l h).0 (λ z. a (h ∙ ap Ours z)) (λ pn z. b pn (h ∙ ap Ours z)) in
         (accepted_untouched s w i h e).p ffr p q
+    go ImageCut e none = elim none [ ]
+    go NotAllowed e none = elim none [ ]
+    go TrailingBytes e none = elim none [ ]
+    go BufferTooSmall e none = elim none [ ]
+    go FieldPastRange e none = elim none [ ]
+    go BadWalkRegisters e none = elim none [ ]
+    go ListTooShort e none = elim none [ ]
+    go BudgetSpent e none = elim none [ ]
+    go NotOwned e none = elim none [ ]

@@ -9,7 +9,7 @@ use borrow.Author.Tests.{lt-ltb, le-ltb}
 use Rattle.bits.specs.Choice.{pick}
 use Rattle.predicates.specs.Predicate.{monotonic}
 use Rattle.replies.specs.declared.Reply.{Reply}
-use Rattle.replies.specs.declared.Reply.TheVariants.{Done, ForeignWord, LevelTooLow, AccessOff, IllegalState, UnsupportedForm, NotMonotonic}
+use Rattle.replies.specs.declared.Reply.TheVariants.{Done, ForeignWord, LevelTooLow, AccessOff, IllegalState, UnsupportedForm, NotMonotonic, BadWalkRegisters, BudgetSpent, BufferTooSmall, FieldPastRange, ImageCut, ListTooShort, NotAllowed, NotOwned, TrailingBytes}
 use Rattle.replies.specs.Reply.{is_done}
 use Rattle.registers.specs.declared.State.{State}
 use Rattle.registers.specs.Legal.{legal}
@@ -76,6 +76,15 @@ given_reply s w LevelTooLow (low i ok h l) = ap (λ (t : Stepped). t.reply) (rep
 given_reply s w AccessOff (off i ok h l a) = ap (λ (t : Stepped). t.reply) (reply_is s w ok i h AccessOff (by_access s w ok i h false a l))
 given_reply s w NotMonotonic (broken pn ok h l a m) = ap (λ (t : Stepped). t.reply) (reply_is s w ok (Wrffr pn) h NotMonotonic (by_value s w ok (Wrffr pn) h false m a l))
 given_reply s w Done (done i ok h l a m) = ap (λ (t : Stepped). t.reply) (reply_is s w ok i h Done (by_value s w ok i h true m a l))
+given_reply s w ImageCut none = elim none [ ]
+given_reply s w NotAllowed none = elim none [ ]
+given_reply s w TrailingBytes none = elim none [ ]
+given_reply s w BufferTooSmall none = elim none [ ]
+given_reply s w FieldPastRange none = elim none [ ]
+given_reply s w BadWalkRegisters none = elim none [ ]
+given_reply s w ListTooShort none = elim none [ ]
+given_reply s w BudgetSpent none = elim none [ ]
+given_reply s w NotOwned none = elim none [ ]
 
 -- and one of its rows applies
 row : (s : State) (w : ℕ) → (r : Reply) × Given s w r
@@ -131,6 +140,15 @@ accepted_step s w i h e = go Done ((exactly_when s w Done).0 e) refl
         let k : j ≡ i = cc in
         let same : level_of j ≡ level_of i = ap level_of k in
         ap (λ (t : Stepped). t.state) (reply_is s w ok i h Done (by_value s w ok i h true (sym (ap (λ (x : Instruction). accepts x (values_of s (registers_of x))) k) ∙ m) a (omega arith)))
+    go ImageCut none z = elim none [ ]
+    go NotAllowed none z = elim none [ ]
+    go TrailingBytes none z = elim none [ ]
+    go BufferTooSmall none z = elim none [ ]
+    go FieldPastRange none z = elim none [ ]
+    go BadWalkRegisters none z = elim none [ ]
+    go ListTooShort none z = elim none [ ]
+    go BudgetSpent none z = elim none [ ]
+    go NotOwned none z = elim none [ ]
 
 -- and so is the step of an instruction's own word
 pub instruction_step : (s : State) (i : Instruction) → in_range i ≡ true → (step_of s (word_of i)).reply ≡ Done → (step_of s (word_of i)).state ≡ execute_of s i
@@ -155,6 +173,15 @@ refused-step s w h = let (r, g) = row s w in go r g
     go AccessOff (off i ok b l a) = ap (λ (t : Stepped). t.state) (reply_is s w ok i b AccessOff (by_access s w ok i b false a l))
     go NotMonotonic (broken pn ok b l a m) = ap (λ (t : Stepped). t.state) (reply_is s w ok (Wrffr pn) b NotMonotonic (by_value s w ok (Wrffr pn) b false m a l))
     go Done (done i ok b l a m) = absurd (h (given_reply s w Done (done i ok b l a m)))
+    go ImageCut none = elim none [ ]
+    go NotAllowed none = elim none [ ]
+    go TrailingBytes none = elim none [ ]
+    go BufferTooSmall none = elim none [ ]
+    go FieldPastRange none = elim none [ ]
+    go BadWalkRegisters none = elim none [ ]
+    go ListTooShort none = elim none [ ]
+    go BudgetSpent none = elim none [ ]
+    go NotOwned none = elim none [ ]
 
 -- an accepted word touches nothing but the registers that its instruction names as written
 pub accepted_untouched : (s : State) (w : ℕ) (i : Instruction) → decode_of w ≡ Ours i → (step_of s w).reply ≡ Done → Untouched s (step_of s w).state (registers_of i)

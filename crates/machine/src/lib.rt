@@ -4,6 +4,7 @@
 // An accepted word executes its instruction: all registers are read before any is written, and nothing else is touched. A run answers for itself 0, or 4, and names the
 // reply to the word it stopped at.
 #![tactic(auto)]
+
 ghost use Rattle.std.specs.Prelude.{◌≡◌};
 ghost use Rattle.bits.specs.Choice.{pick};
 ghost use Rattle.predicates.specs.PredTest.{flags_of};

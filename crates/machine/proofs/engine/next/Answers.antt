@@ -1,0 +1,7 @@
+-- `next` meets its contract. Assumes nothing.
+use borrow.Author.Rules.{rules}
+use Rattle.machine.proofs.Steps.{word-refused}
+use Rattle.machine.proofs.engine.next.Goals as goal
+
+pub returns-in-Refused : goal.returns-in-Refused
+returns-in-Refused c = search (word-refused, rules) depth 9
