@@ -2,6 +2,7 @@
 // It refuses in this order: 4, 10, 2 (level 0), 3, 11; these change nothing. It is done exactly when the budget is at least D + 3R + 2; with less it answers 12, with the state after exactly
 // budget instructions and the positions written by then. Positions are written from the list's first place on; every other place stays.
 #![tactic(auto)]
+
 ghost use Rattle.std.specs.Prelude.{◌≡◌, length};
 ghost use Rattle.bits.specs.Choice.{pick};
 ghost use Rattle.replies.specs.declared.Reply.TheVariants.{Done, BudgetSpent};
