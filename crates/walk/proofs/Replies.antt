@@ -2,7 +2,7 @@
 use Rattle.std.proofs.Common.{◌≡◌, ℕ, ◌<◌, Bool, true, false, ◌↔◌, List, length, sym, refl, ap, ◌∙◌, subst, arith}
 use native.Mathlib.Decide.{dec_lt}
 use Rattle.replies.specs.declared.Reply.{Reply}
-use Rattle.replies.specs.declared.Reply.TheVariants.{Done, LevelTooLow, AccessOff, IllegalState, BadWalkRegisters, ListTooShort, BudgetSpent}
+use Rattle.replies.specs.declared.Reply.TheVariants.{Done, LevelTooLow, AccessOff, IllegalState, BadWalkRegisters, ListTooShort, BudgetSpent, BufferTooSmall, FieldPastRange, ForeignWord, ImageCut, NotAllowed, NotMonotonic, NotOwned, TrailingBytes, UnsupportedForm}
 use Rattle.replies.specs.Reply.{is_done}
 use Rattle.registers.specs.declared.State.{State}
 use Rattle.registers.specs.Legal.{legal}
@@ -41,6 +41,15 @@ module _ (size n m d k budget : ℕ) (s : State) (l : List ℕ) (typed : Typed s
   given_reply ListTooShort (short ok g v on h) = refused ListTooShort (refused_11 size n m d k s (length l) ok g v on h) refl
   given_reply BudgetSpent (spent a h) = answer a ∙ ((demand a).short h).reply
   given_reply Done (done a h) = answer a ∙ ((demand a).enough h).reply
+  given_reply ForeignWord none = elim none [ ]
+  given_reply ImageCut none = elim none [ ]
+  given_reply NotAllowed none = elim none [ ]
+  given_reply TrailingBytes none = elim none [ ]
+  given_reply BufferTooSmall none = elim none [ ]
+  given_reply FieldPastRange none = elim none [ ]
+  given_reply UnsupportedForm none = elim none [ ]
+  given_reply NotMonotonic none = elim none [ ]
+  given_reply NotOwned none = elim none [ ]
 
   -- and one of its rows applies
   row : (r : Reply) × Given size n m d k budget s (length l) r
