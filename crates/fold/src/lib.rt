@@ -1,6 +1,7 @@
 // A title folded in place: letters without their accents, and small. The walk lists the positions of its units, and the unit at each is folded, once.
 // A vector length that is not allowed is refused with 4, then a title of more than 4,096 units with 11; a refusal leaves the title as it was.
 #![tactic(auto)]
+
 ghost use Rattle.std.specs.Prelude.{map, ◌≡◌, length, replicate};
 ghost use Rattle.replies.specs.declared.Reply.TheVariants.{Done};
 ghost use Rattle.fold.specs.Table.{fold_unit};

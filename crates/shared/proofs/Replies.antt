@@ -12,7 +12,7 @@ use Rattle.bits.specs.declared.Size.{Size}
 use Rattle.bits.specs.Choice.{pick}
 use Rattle.bits.proofs.Searches.{never}
 use Rattle.replies.specs.declared.Reply.{Reply}
-use Rattle.replies.specs.declared.Reply.TheVariants.{Done, ForeignWord, LevelTooLow, AccessOff, IllegalState, BadWalkRegisters, ListTooShort, UnsupportedForm, NotMonotonic, NotOwned}
+use Rattle.replies.specs.declared.Reply.TheVariants.{Done, ForeignWord, LevelTooLow, AccessOff, IllegalState, BadWalkRegisters, ListTooShort, UnsupportedForm, NotMonotonic, NotOwned, BudgetSpent, BufferTooSmall, FieldPastRange, ImageCut, NotAllowed, TrailingBytes}
 use Rattle.replies.specs.Reply.{is_done}
 use Rattle.registers.specs.declared.State.{State}
 use Rattle.registers.specs.Legal.{legal}
@@ -101,6 +101,15 @@ module _ (who : Kernel) (s : Shared) (w : ℕ) where
   given_reply AccessOff (off i ok h l a) = ap (λ (t : Stepped). t.reply) (off_is who s w ok i h l a)
   given_reply NotOwned (not_owned i ok h l a m) = ap (λ (t : Stepped). t.reply) (barred_is who s w ok i h l a m)
   given_reply Done (done i ok h l a m) = ap (λ (t : Stepped). t.reply) (done_is who s w ok i h l a m)
+  given_reply ImageCut none = elim none [ ]
+  given_reply NotAllowed none = elim none [ ]
+  given_reply TrailingBytes none = elim none [ ]
+  given_reply BufferTooSmall none = elim none [ ]
+  given_reply FieldPastRange none = elim none [ ]
+  given_reply BadWalkRegisters none = elim none [ ]
+  given_reply ListTooShort none = elim none [ ]
+  given_reply BudgetSpent none = elim none [ ]
+  given_reply NotMonotonic none = elim none [ ]
 
   -- and one of its rows applies: an ordinary step's, with 15 for 14, and for 0 where a register is not the kernel's
   row : (r : Reply) × Given who s w r
@@ -122,6 +131,15 @@ module _ (who : Kernel) (s : Shared) (w : ℕ) where
       go AccessOff (row_3 i ok h l a) = (AccessOff, off i (is ok) h l a)
       go NotMonotonic (row_14 pn ok h l a m) = by_owner (Wrffr pn) ok h l a (may_name who (registers_of (Wrffr pn))) refl
       go Done (row_0 i ok h l a m) = by_owner i ok h l a (may_name who (registers_of i)) refl
+      go ImageCut none = elim none [ ]
+      go NotAllowed none = elim none [ ]
+      go TrailingBytes none = elim none [ ]
+      go BufferTooSmall none = elim none [ ]
+      go FieldPastRange none = elim none [ ]
+      go BadWalkRegisters none = elim none [ ]
+      go ListTooShort none = elim none [ ]
+      go BudgetSpent none = elim none [ ]
+      go NotOwned none = elim none [ ]
 
   pub exactly_when : (r : Reply) → ((step_of who s w).reply ≡ r) ↔ Given who s w r
   exactly_when r = (there, given_reply r)
@@ -143,6 +161,15 @@ module _ (who : Kernel) (s : Shared) (w : ℕ) where
       go AccessOff (off i ok b l a) = ap (λ (t : Stepped). t.shared) (off_is who s w ok i b l a)
       go NotOwned (not_owned i ok b l a m) = ap (λ (t : Stepped). t.shared) (barred_is who s w ok i b l a m)
       go Done (done i ok b l a m) = absurd (h (given_reply Done (done i ok b l a m)))
+      go ImageCut none = elim none [ ]
+      go NotAllowed none = elim none [ ]
+      go TrailingBytes none = elim none [ ]
+      go BufferTooSmall none = elim none [ ]
+      go FieldPastRange none = elim none [ ]
+      go BadWalkRegisters none = elim none [ ]
+      go ListTooShort none = elim none [ ]
+      go BudgetSpent none = elim none [ ]
+      go NotMonotonic none = elim none [ ]
 
   module _ (i : Instruction) (ours : decode_of w ≡ Ours i) (accepted : (step_of who s w).reply ≡ Done) where
     abbrev has : State
@@ -163,6 +190,15 @@ module _ (who : Kernel) (s : Shared) (w : ℕ) where
               sym (ap (λ (x : Instruction). may_name who (registers_of x)) k) ∙ m,
               ap (λ (t : Stepped). t.shared) (done_is who s w ok j b l a m) ∙ ap (λ (x : Instruction). shared_after who s (execute_of has x)) k,
             )
+        go ImageCut none z = elim none [ ]
+        go NotAllowed none z = elim none [ ]
+        go TrailingBytes none z = elim none [ ]
+        go BufferTooSmall none z = elim none [ ]
+        go FieldPastRange none z = elim none [ ]
+        go BadWalkRegisters none z = elim none [ ]
+        go ListTooShort none z = elim none [ ]
+        go BudgetSpent none z = elim none [ ]
+        go NotMonotonic none z = elim none [ ]
 
     -- all that it names is the kernel's
     pub accepted_owned : may_name who (registers_of i) ≡ true

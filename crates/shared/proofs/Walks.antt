@@ -13,7 +13,7 @@ use borrow.Author.Tests.{lt-ltb, le-leb, lt-leb, eq-eqb, ne_eqb}
 use Rattle.bits.specs.Choice.{pick}
 use Rattle.bits.proofs.Searches.{never}
 use Rattle.replies.specs.declared.Reply.{Reply}
-use Rattle.replies.specs.declared.Reply.TheVariants.{Done, LevelTooLow, AccessOff, IllegalState, BadWalkRegisters, ListTooShort, BudgetSpent, NotOwned}
+use Rattle.replies.specs.declared.Reply.TheVariants.{Done, LevelTooLow, AccessOff, IllegalState, BadWalkRegisters, ListTooShort, BudgetSpent, NotOwned, BufferTooSmall, FieldPastRange, ForeignWord, ImageCut, NotAllowed, NotMonotonic, TrailingBytes, UnsupportedForm}
 use Rattle.replies.specs.Reply.{is_done}
 use Rattle.registers.specs.Legal.{legal}
 use Rattle.registers.specs.State.{with_flags}
@@ -177,6 +177,14 @@ module _ (who : Kernel) (size n m d k budget : ℕ) (s : Shared) (l : List ℕ) 
   given_reply ListTooShort (short ok g v on o h) = refused ListTooShort (refused_11 who size n m d k s (length l) ok g v on o h) refl
   given_reply BudgetSpent (spent a h) = ordinary a BudgetSpent (Row-spent ((with_flags_lem who size n m d k s (length l)).0 a.ordinary) h)
   given_reply Done (done a h) = ordinary a Done (Row-done ((with_flags_lem who size n m d k s (length l)).0 a.ordinary) h)
+  given_reply ForeignWord none = elim none [ ]
+  given_reply ImageCut none = elim none [ ]
+  given_reply NotAllowed none = elim none [ ]
+  given_reply TrailingBytes none = elim none [ ]
+  given_reply BufferTooSmall none = elim none [ ]
+  given_reply FieldPastRange none = elim none [ ]
+  given_reply UnsupportedForm none = elim none [ ]
+  given_reply NotMonotonic none = elim none [ ]
 
   -- and one of its rows applies
   row : (r : Reply) × Given who size n m d k budget s (length l) r

@@ -3,6 +3,7 @@
 // A kernel's step or walk is that of an ordinary state with this kernel's flags. One that names a register which is not its own, or touches FFR, is refused with 15:
 // a step refuses in the order 4, 1 or 13, 2, 3, 15, a walk in the order 4, 10, 2, 3, 15, 11, 12; a refusal but 12 leaves all as it was.
 #![tactic(auto)]
+
 ghost use Rattle.std.specs.Prelude.{◌≡◌, length};
 ghost use Rattle.replies.specs.declared.Reply.TheVariants.{Done};
 ghost use Rattle.words.specs.Words.{size_of, decode_of};
