@@ -1,6 +1,7 @@
 // The program's work: from an image's bytes to the lines that it writes.
 // A line for each word stepped, up to the first that is refused, and one that counts those done; for a refused image one line with the reply. A line that does not fit is left out whole.
 #![tactic(auto)]
+
 ghost use Rattle.std.specs.Prelude.{◌≡◌, ◌≤◌, length};
 ghost use Rattle.image.specs.Reading.{list_after};
 ghost use Rattle.transcript.specs.Transcript.{lines_of, transcript_of, after_all, placed_all};

@@ -1,6 +1,5 @@
 -- `predicates_of` meets its contract: what is left to read is stored over what was, FFR at first in every place. Assumes nothing.
 use mathlib.Core.Path.{sym, ap, ◌∙◌}
-use Prim.Native.Nat.{◌-◌}
 use native.Mathlib.Omega.{arith}
 use lib.ListN.{take, length-set}
 use Rattle.octets.specs.Bytes.{parts}

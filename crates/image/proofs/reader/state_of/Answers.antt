@@ -4,5 +4,5 @@ use Rattle.image.proofs.reader.state_of.Goals as goal
 
 pub returns : goal.returns
 returns c =
-    state_from _ _ _ _ _ _ _ _ _ _ _ _ _ c.new.ensures c.vector_length-vl.ensures.0 c.after-settings.ensures c.byte.ensures c.byte-access.ensures
+    state_from _ _ _ _ _ _ _ _ _ _ _ _ _ c.new.ensures c.vector_length-vl.ensures.value c.after-settings.ensures c.byte.ensures c.byte-access.ensures
     c.flags_of-flags.ensures c.content_of.ensures c.x_of-x.ensures c.content_of-2.ensures c.predicates_of-p.ensures c.content_of-3.ensures c.ffr_of.ensures

@@ -1,6 +1,5 @@
 -- `x_of` meets its contract: what is left to read is stored over what was. Assumes nothing.
 use mathlib.Core.Path.{refl, sym, ◌∙◌}
-use Prim.Native.Nat.{◌-◌}
 use native.Mathlib.Omega.{arith}
 use lib.ListN.{length-set}
 use Rattle.octets.specs.Bytes.{value}

@@ -1,6 +1,5 @@
 -- `has_wrong` meets its contract: no byte that was passed is wrong. Assumes nothing.
 use mathlib.Core.Path.{refl}
-use Prim.Native.Nat.{◌-◌}
 use native.Mathlib.Omega.{arith}
 use borrow.Author.Rules.{rules}
 use Rattle.bits.specs.Search.{some}

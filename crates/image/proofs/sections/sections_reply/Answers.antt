@@ -1,5 +1,4 @@
 -- `sections_reply` meets its contract: the reply is that of the sections that are left. Assumes nothing.
-use Prim.Native.Nat.{◌-◌}
 use native.Mathlib.Omega.{arith}
 use borrow.Author.Rules.{rules}
 use Rattle.image.proofs.SectionLaws.{refused_here, passed_on, reply_left, bytes_left, no_bytes_left}

@@ -1,6 +1,5 @@
 -- `start_of` meets its contract: the sections that were passed end where the next begins. Assumes nothing.
 use mathlib.Core.Path.{refl}
-use Prim.Native.Nat.{◌-◌}
 use native.Mathlib.Omega.{arith}
 use borrow.Author.Rules.{rules}
 use Rattle.image.specs.Sections.{start_of}

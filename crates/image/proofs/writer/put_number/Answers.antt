@@ -1,6 +1,5 @@
 -- `put_number` meets its contract: what is left to store is stored over what was. Assumes nothing.
 use mathlib.Core.Path.{sym, ◌∙◌}
-use Prim.Native.Nat.{◌-◌}
 use native.Mathlib.Omega.{arith}
 use lib.ListN.{length-set}
 use Rattle.octets.proofs.Bytes.{le-turn, le_end}

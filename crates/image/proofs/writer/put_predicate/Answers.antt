@@ -1,6 +1,5 @@
 -- `put_predicate` meets its contract: what is left to write is stored over what was. Assumes nothing.
 use mathlib.Core.Path.{refl, sym, ◌∙◌}
-use Prim.Native.Nat.{◌-◌}
 use native.Mathlib.Omega.{arith}
 use Rattle.predicates.specs.Words.{Words}
 use Rattle.predicates.proofs.Words.{words_of}
@@ -9,7 +8,7 @@ use borrow.Author.Rules.{rules}
 use Rattle.image.proofs.writer.put_predicate.Goals as goal
 use Rattle.image.proofs.writer.put_predicate.Goals.{Start}
 
-ok : (c : Start) → Words c.args.t4
+ok : (c : Start) → Words c.args.p
 ok c = search (rules, words_of)
 
 pub loop-j-init : goal.loop-j-init

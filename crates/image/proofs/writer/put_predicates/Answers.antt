@@ -1,7 +1,7 @@
 -- `put_predicates` meets its contract: what is left to write is stored over what was. Assumes nothing.
 use mathlib.Core.List.{List}
 use mathlib.Core.Path.{◌≡◌, sym, ◌∙◌}
-use Prim.Native.Nat.{◌+◌, ◌-◌}
+use Prim.Native.Nat.{◌+◌}
 use native.Mathlib.Omega.{arith}
 use lib.ListN.{length, take, drop, length-drop}
 use lib.Seq.{length-take-le}
@@ -17,25 +17,26 @@ use Rattle.image.proofs.writer.put_predicates.Goals.{Start}
 
 -- the predicates that are written
 abbrev chosen : Start → List Predicate
-chosen c = take c.args.n (drop c.args.first c.args.t4)
+chosen c = take c.args.n (drop c.args.first c.args.p)
 
-all : (c : Start) → length c.args.t4 ≡ 17
+all : (c : Start) → length c.args.p ≡ 17
 all c = search (rules, length_mapped)
 
 many : (c : Start) → length (chosen c) ≡ c.args.n
-many c = let l = all c in length-take-le _ _ (omega (arith, length-drop c.args.first c.args.t4))
+many c = let l = all c in length-take-le _ _ (omega (arith, length-drop c.args.first c.args.p))
 
 pub loop-i-preserved : goal.loop-i-preserved
 loop-i-preserved c =
     let a = c.args in
     let n = many (goal.at.loop-i-preserved c).Start in
-    (omega arith, (omega arith, chosen_turn a.size _ _ (a.at + 4) c.loop-i.i a.t4 a.first a.n _ (omega arith) (omega arith) c.put_predicate.ensures ∙ c.loop-i.invariant.1.1))
+    (omega arith, (omega arith, chosen_turn a.size _ _ (a.at + 4) c.loop-i.i a.p a.first a.n _ (omega arith) (omega arith) c.put_predicate.ensures ∙ c.loop-i.invariant.1.1))
 
-pub returns-clause-image_after : goal.returns-clause-image_after
-returns-clause-image_after c =
+pub returns : goal.returns
+returns c =
     let a = c.args in
-    let n = many (goal.at.returns-clause-image_after c).Start in (
-      omega arith,
-      sym (put_end (predicate_bytes a.size) a.size (length_bytes a.size) _ (a.at + 4) c.loop-i.i (chosen (goal.at.returns-clause-image_after c).Start) (omega arith)) ∙ c.loop-i.invariant.1.1
-          ∙ section_start (predicate_bytes a.size) _ _ _ _ (chosen (goal.at.returns-clause-image_after c).Start) c.put_number.ensures (sym n),
-    )
+    let n = many (goal.at.returns c).Start in
+    record {
+      value = omega arith;
+      image_after = sym (put_end (predicate_bytes a.size) a.size (length_bytes a.size) _ (a.at + 4) c.loop-i.i (chosen (goal.at.returns c).Start) (omega arith)) ∙ c.loop-i.invariant.1.1
+          ∙ section_start (predicate_bytes a.size) _ _ _ _ (chosen (goal.at.returns c).Start) c.put_number.ensures (sym n);
+    }

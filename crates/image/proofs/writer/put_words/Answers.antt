@@ -1,6 +1,6 @@
 -- `put_words` meets its contract: what is left to write is stored over what was. Assumes nothing.
 use mathlib.Core.Path.{refl, sym, ◌∙◌}
-use Prim.Native.Nat.{◌+◌, ◌-◌}
+use Prim.Native.Nat.{◌+◌}
 use native.Mathlib.Omega.{arith}
 use Rattle.octets.specs.Bytes.{le}
 use Rattle.octets.proofs.Bytes.{length-le, put_turn, put_end}
