@@ -4,7 +4,7 @@ import glob
 import os
 import re
 
-# A wrong body: its functions are those it changes, or, where it changes a constant, those that notice.
+# A wrong body: its functions are those it changes, or, where it changes a constant, those that notice. Its pairs are (source, old, new).
 Body = collections.namedtuple("Body", "crate edit name functions pairs")
 NAMED = re.compile(r"# (\w+): ([\w:]+(?:, [\w:]+)*) is refused: \S.*")
 
@@ -27,7 +27,7 @@ def read(path):
             if not bodies:
                 faults.append(f"a body without a name: {line}")
             else:
-                bodies[-1].pairs.append((source, old))
+                bodies[-1].pairs.append((source, old, line[len("new:") :].removeprefix(" ")))
     faults += [f"{body.name}: a name without a body" for body in bodies if not body.pairs]
     faults += places(bodies, os.path.dirname(os.path.dirname(path)))
     return bodies, [f"{crate}/must-fail/{edit}: {fault}" for fault in faults]
@@ -42,7 +42,7 @@ def places(bodies, crate):
         faults += [f"{body.name}: there is no function {name}" for name in body.functions if name not in known]
         faults += [f"{body.name}: {name} stands here twice" for name in body.functions if name in seen]
         seen.update(body.functions)
-        for source, old in body.pairs:
+        for source, old, _ in body.pairs:
             text = sources.get(source, "")
             if text.count(old) != 1:
                 faults.append(f"{body.name}: its text stands {text.count(old)} times in {source}")
