@@ -19,8 +19,9 @@ is_ready() {
     ! outdated "$archive" && ! binary_outdated
 }
 
+# For any x86-64: rt's default asks more of the host's processor, and a library does not look for it.
 build_archive() {
-    build library "$archive" capi lib
+    build library "$archive" capi lib --cpu x86-64
     echo "$kit" > "$archive.kit" || nothing_written crates/capi/out
 }
 

@@ -63,14 +63,14 @@ drop_lock() {
     exec {lock}>&-
 }
 
-# build WHAT FILE CRATE VERB: proves CRATE and all that it needs, and has 'rt VERB' write FILE, in CRATE's folder out.
+# build WHAT FILE CRATE WORDS...: proves CRATE and all that it needs, and has 'rt WORDS' write FILE, in CRATE's folder out.
 build() {
     type -P rt > /dev/null ||
         fail "the $1 has to be proved and built first, and rt is not on the path: it is in the folder bin of the Rattle kit (README.md: What is needed)"
     mkdir -p "$here/target/proved" 2> /dev/null || nothing_written target
     { mkdir -p "${2%/*}" && touch "$2.unfinished"; } 2> /dev/null || nothing_written "crates/$3/out"
     find_left "$3"
-    prove "$1" "$4"
+    prove "$1" "${@:4}"
     [ -f "$2" ] || fail "rt has built no $1"
     # as old as the beginning: an edit since then is not in it
     { touch -r "$2.unfinished" "$2" && rm "$2.unfinished"; } 2> /dev/null || nothing_written "crates/$3/out"
@@ -146,17 +146,17 @@ stamp_of() {
 # What a crate takes on average, from 3 to 40.
 seconds_each=18
 
-# prove WHAT VERB: proves the crates that are left, each in its folder; for the last one 'rt VERB' is called. rt keeps the lock: what it has
+# prove WHAT WORDS...: proves the crates that are left, each in its folder; for the last one 'rt WORDS' is called. rt keeps the lock: what it has
 # started may outlive this script.
 prove() {
-    local name verb=lib count=${#left[@]} first=1
+    local name words=(lib) count=${#left[@]} first=1
     say "proving $(counted "$count" crate) and building the $1 first; that takes about $(duration $((seconds_each * count)))"
     while [ ${#left[@]} -gt 0 ]; do
         next_batch
         say "proving $(numbers "$first" "$count"): $(listed "${batch[@]}")"
-        [ ${#left[@]} -gt 0 ] || verb=$2
+        [ ${#left[@]} -gt 0 ] || words=("${@:2}")
         for name in "${batch[@]}"; do
-            if ! (cd "$here/crates/$name" && rt "$verb") < /dev/null > "$here/target/rt.log" 2>&1; then
+            if ! (cd "$here/crates/$name" && rt "${words[@]}") < /dev/null > "$here/target/rt.log" 2>&1; then
                 cat "$here/target/rt.log" >&2 || :
                 fail "the $1 could not be proved and built"
             fi
