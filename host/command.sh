@@ -4,7 +4,7 @@
 # shellcheck source=host/prove.sh
 . "$here/host/prove.sh"
 
-archive=$here/target/staticlib/libcapi.a
+archive=$here/crates/capi/out/libcapi.a
 binary=$here/host/target/command/plokamyr
 begun=$here/host/target/command/begun
 built=$here/host/target/command/built
@@ -19,9 +19,10 @@ is_ready() {
     ! outdated "$archive" && ! binary_outdated
 }
 
+# For any x86-64: rt's default asks more of the host's processor, and a library does not look for it.
 build_archive() {
-    build library "$archive" capi staticlib capi
-    echo "$kit" > "$archive.kit" || nothing_written target
+    build library "$archive" capi lib --cpu x86-64
+    echo "$kit" > "$archive.kit" || nothing_written crates/capi/out
 }
 
 # The repository's own git, whatever stands around it.
@@ -47,7 +48,7 @@ machine() {
 # could say otherwise is said: the archive, the kind of machine, and where the command goes.
 run_cargo() {
     exec {lock}>&-
-    PLOKAMYR_LIB=$here/target/staticlib PLOKAMYR_BUILD=$(< "$begun")
+    PLOKAMYR_LIB=${archive%/*} PLOKAMYR_BUILD=$(< "$begun")
     export PLOKAMYR_LIB PLOKAMYR_BUILD
     cargo build --offline --quiet --release -p cli --target "$1" --target-dir target
 }

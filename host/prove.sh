@@ -63,26 +63,31 @@ drop_lock() {
     exec {lock}>&-
 }
 
-# build WHAT FILE CRATE WORDS...: proves CRATE and all that it needs, and has 'rt WORDS' write FILE.
+# build WHAT FILE CRATE WORDS...: proves CRATE and all that it needs, and has 'rt WORDS' write FILE, in CRATE's folder out.
 build() {
     type -P rt > /dev/null ||
         fail "the $1 has to be proved and built first, and rt is not on the path: it is in the folder bin of the Rattle kit (README.md: What is needed)"
-    { mkdir -p "${2%/*}" "$here/target/proved" && touch "$2.unfinished"; } 2> /dev/null || nothing_written target
+    mkdir -p "$here/target/proved" 2> /dev/null || nothing_written target
+    { mkdir -p "${2%/*}" && touch "$2.unfinished"; } 2> /dev/null || nothing_written "crates/$3/out"
     find_left "$3"
     prove "$1" "${@:4}"
     [ -f "$2" ] || fail "rt has built no $1"
     # as old as the beginning: an edit since then is not in it
-    { touch -r "$2.unfinished" "$2" && rm "$2.unfinished"; } 2> /dev/null || nothing_written target
+    { touch -r "$2.unfinished" "$2" && rm "$2.unfinished"; } 2> /dev/null || nothing_written "crates/$3/out"
 }
 
-# find_left CRATE: sets 'left', the crates that are to be proved, each after those that it uses. CRATE is always the last, since rt
-# keeps no account of what it builds from it.
+# find_left CRATE: sets 'left', the crates that are to be proved, each after those that it uses. CRATE is always the last: only rt knows
+# whether what it builds from it is as it was.
 find_left() {
-    local name used
+    local line name used
     declare -gA uses=() met=() digests=()
     needed=() left=()
-    while IFS=$': \t' read -r name used; do
-        [[ -z $name || $name = \#* ]] || uses[$name]=${used%%#*}
+    # 'NAME: DEP ..', or 'NAME staticlib: DEP ..'
+    while IFS= read -r line; do
+        line=${line%%#*}
+        [[ $line = *:* ]] || continue
+        read -r name _ <<< "${line%%:*}"
+        [ -z "$name" ] || uses[$name]=${line#*:}
     done < "$here/crates.txt"
     need "$1"
     kit=$(rt version < /dev/null) || fail "rt has no version"
@@ -116,13 +121,15 @@ digest() {
     } | sha256sum
 }
 
-# is_proved CRATE: rt will find it unchanged. What was proved here has its digest in target/proved; where rt was called by hand since, times tell.
+# is_proved CRATE: rt will find its library unchanged. What was proved here has its digest in target/proved; where rt was called by hand since,
+# times tell.
 is_proved() {
-    local name stamp=$here/target/stamp/$1 record=$here/target/proved/$1 from=("$here/crates/$1"/{src,specs,proofs})
+    local name stamp record=$here/target/proved/$1 from=("$here/crates/$1"/{src,specs,proofs})
+    stamp=$(stamp_of "$1")
     [ -f "$stamp" ] || return 1
     for name in ${uses[$1]}; do
         [[ " ${left[*]} " != *" $name "* ]] || return 1
-        [ ! -f "$here/target/stamp/$name" ] || from+=("$here/target/stamp/$name")
+        [ ! -f "$(stamp_of "$name")" ] || from+=("$(stamp_of "$name")")
     done
     if [ "$record" -ot "$stamp" ]; then
         [ -z "$(find "${from[@]}" -newer "$stamp" -print -quit 2> /dev/null)" ]
@@ -131,31 +138,35 @@ is_proved() {
     fi
 }
 
+# stamp_of CRATE: what rt writes last of a library that it has built.
+stamp_of() {
+    echo "$here/crates/$1/out/rlib/stamp"
+}
+
 # What a crate takes on average, from 3 to 40.
 seconds_each=18
 
-# prove WHAT WORDS...: proves the crates that are left; for the last one 'rt WORDS' is called. rt keeps the lock: what it has started
-# may outlive this script.
+# prove WHAT WORDS...: proves the crates that are left, each in its folder; for the last one 'rt WORDS' is called. rt keeps the lock: what it has
+# started may outlive this script.
 prove() {
-    local name count=${#left[@]} first=1 words
+    local name words=(lib) count=${#left[@]} first=1
     say "proving $(counted "$count" crate) and building the $1 first; that takes about $(duration $((seconds_each * count)))"
     while [ ${#left[@]} -gt 0 ]; do
         next_batch
         say "proving $(numbers "$first" "$count"): $(listed "${batch[@]}")"
-        words=(check "${batch[@]}")
         [ ${#left[@]} -gt 0 ] || words=("${@:2}")
-        if ! (cd "$here" && rt "${words[@]}") < /dev/null > "$here/target/rt.log" 2>&1; then
-            cat "$here/target/rt.log" >&2 || :
-            fail "the $1 could not be proved and built"
-        fi
         for name in "${batch[@]}"; do
+            if ! (cd "$here/crates/$name" && rt "${words[@]}") < /dev/null > "$here/target/rt.log" 2>&1; then
+                cat "$here/target/rt.log" >&2 || :
+                fail "the $1 could not be proved and built"
+            fi
             echo "${digests[$name]}" > "$here/target/proved/$name" || nothing_written target
         done
         first=$((first + ${#batch[@]}))
     done
 }
 
-# Takes from 'left' what uses nothing that is left, for rt to prove side by side: that is 'batch'.
+# Takes from 'left' what uses nothing that is left: that is 'batch'.
 next_batch() {
     local name used rest=()
     batch=()

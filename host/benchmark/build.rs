@@ -13,12 +13,12 @@ const CALLS: [&str; 3] = ["plokamyr_run_parts", "plokamyr_walk", "plokamyr_read"
 
 fn main() {
     println!("cargo::rustc-check-cfg=cfg(before)");
-    let make = "Run `rt staticlib scan` at the root of the repository, or set PLOKAMYR_LIB to the folder that has it.";
-    link("scan", &find(&folder(), &["libscan.a"], make));
+    let make = "Run `rt lib` in crates/scan of the repository, or set PLOKAMYR_LIB to the folder that has it.";
+    link("scan", &find(&folder("scan"), &["libscan.a"], make));
     if let Some(before) = named("PLOKAMYR_BEFORE") {
         let what = "PLOKAMYR_BEFORE is the folder of an earlier libcapi.a, or is not set.";
         link_copy("before", &find(&before, &LIBRARY, what));
-        link_copy("now", &find(&folder(), &LIBRARY, what));
+        link_copy("now", &find(&folder("capi"), &LIBRARY, what));
         println!("cargo::rustc-cfg=before");
     }
 }

@@ -7,12 +7,12 @@ use std::os::unix::process::parent_id;
 use std::path::{Path, PathBuf};
 use std::process::exit;
 
-/// The library's archive: as `rt staticlib capi` calls it, and as `./install` does.
+/// The library's archive: as `rt lib` calls it in the folder of the crate `capi`, and as `./install` does.
 pub const LIBRARY: [&str; 2] = ["libcapi.a", "libplokamyr.a"];
 
-/// The folder of archives: the one that `PLOKAMYR_LIB` names, or where `rt staticlib` puts them.
-pub fn folder() -> PathBuf {
-    named("PLOKAMYR_LIB").unwrap_or_else(|| PathBuf::from("../../target/staticlib"))
+/// The folder of a crate's archive: the one that `PLOKAMYR_LIB` names, or where `rt lib` puts it.
+pub fn folder(name: &str) -> PathBuf {
+    named("PLOKAMYR_LIB").unwrap_or_else(|| PathBuf::from(format!("../../crates/{name}/out")))
 }
 
 /// The folder that a variable names, if it is set and not empty. A relative path begins where cargo was called.
