@@ -1,17 +1,19 @@
 // Holds the library to stored vectors that a second program made: records on standard input, each with a kind (1 byte), the length of its
 // rest (4 bytes), and its rest. Numbers are little-endian; an image stands behind its length (4 bytes).
 #![tactic(auto)]
+
 ghost use Rattle.std.specs.Prelude.{true, [], ◌≡◌, ◌≤◌, length, take, get_or};
 ghost use Rattle.octets.specs.Bytes.{value, parts};
 ghost use Rattle.predicates.specs.PredTest.{flags_of};
 ghost use Rattle.image.specs.Image.{image_of};
 ghost use Rattle.vectors.specs.Records.{block as block_of, past_block, RunAgrees, ImageAgrees, Walks, WalkAgrees, turn_of, StepAgrees, TitleFolds, TitleAgrees, Agrees};
 
-use libc::{STDIN_FILENO, STDOUT_FILENO};
 use machine::Machine;
 use predicates::Flags;
 use registers::State;
 use shared::{Kernel, Shared, Stepped};
+use std::io;
+use std::io::{Input, Read};
 
 // The image of a state and words; the reply (1 byte), the refused word's reply (1), the number of words done (4), the image of the state after.
 const RUN: u8 = 1;
@@ -46,28 +48,27 @@ struct Tally {
     scores: [Score; 5],
 }
 
-fn main() {
-    judge([0; 920000]);
+fn main(rt: HostRuntime) -> io::Result<()> {
+    judge(&rt, [0; 920000])
 }
 
 // Reads into the bytes handed in, which are more than the input may have.
-fn judge(mut bytes: [u8; 920000]) {
-    let length = io::read_full(STDIN_FILENO, &mut bytes);
+fn judge(rt: &(impl Input + Print), mut bytes: [u8; 920000]) -> io::Result<()> {
+    let length = io::copy(&mut rt.reader().take(920000), &mut &mut bytes[..])?;
     if length == 920000 {
-        io::write_all(STDOUT_FILENO, b"the input is too long\n");
-        return;
+        return rt.println("the input is too long");
     }
-    let tally = compare(&bytes[..length]);
+    let tally = compare(rt, octets::first(&bytes, length as usize))?;
     let scores = tally.scores;
-    say_score(b"runs ", scores[0]);
-    say_score(b"images ", scores[1]);
-    say_score(b"walks ", scores[2]);
-    say_score(b"steps ", scores[3]);
-    say_score(b"titles ", scores[4]);
+    say_score(rt, "runs", scores[0])?;
+    say_score(rt, "images", scores[1])?;
+    say_score(rt, "walks", scores[2])?;
+    say_score(rt, "steps", scores[3])?;
+    say_score(rt, "titles", scores[4])
 }
 
 // The records one after the other, to the end or to the first that is malformed.
-fn compare(bytes: &[u8]) -> Tally {
+fn compare(rt: &impl Print, bytes: &[u8]) -> io::Result<Tally> {
     let none = Score { agree: 0, all: 0 };
     let mut tally = Tally { scores: [none; 5] };
     let mut number = 0;
@@ -77,17 +78,17 @@ fn compare(bytes: &[u8]) -> Tally {
         let kind = octets::byte(left, 0);
         let record = octets::after(left, 1);
         if !is_whole(kind, record) {
-            say_malformed(number);
-            return tally;
+            say_malformed(rt, number)?;
+            return Ok(tally);
         }
         let agrees = holds(kind, block(record));
         if !agrees {
-            say_differs(number);
+            say_differs(rt, number)?;
         }
         tally = tally.counted(kind, agrees);
         left = past_block(record);
     }
-    tally
+    Ok(tally)
 }
 
 // The counts.
@@ -130,26 +131,20 @@ impl Tally {
 
 // What is said.
 
-fn say_score(name: &[u8], score: Score) {
-    io::write_all(STDOUT_FILENO, name);
-    io::print_decimal(STDOUT_FILENO, score.agree);
-    io::write_all(STDOUT_FILENO, b" of ");
-    io::print_decimal(STDOUT_FILENO, score.all);
-    io::write_all(STDOUT_FILENO, b"\n");
+fn say_score(rt: &impl Print, name: &str, score: Score) -> io::Result<()> {
+    println!(rt; "{name} {} of {}", score.agree, score.all)
 }
 
-fn say_record(number: u64, what: &[u8]) {
-    io::write_all(STDOUT_FILENO, b"record ");
-    io::print_decimal(STDOUT_FILENO, number);
-    io::write_all(STDOUT_FILENO, what);
+fn say_record(rt: &impl Print, number: u64, what: &str) -> io::Result<()> {
+    println!(rt; "record {number} {what}")
 }
 
-fn say_malformed(number: u64) {
-    say_record(number, b" is malformed\n");
+fn say_malformed(rt: &impl Print, number: u64) -> io::Result<()> {
+    say_record(rt, number, "is malformed")
 }
 
-fn say_differs(number: u64) {
-    say_record(number, b" differs\n");
+fn say_differs(rt: &impl Print, number: u64) -> io::Result<()> {
+    say_record(rt, number, "differs")
 }
 
 // The first n words, or as many of them as there are.
@@ -540,7 +535,7 @@ fn image_is(state: State, words: &[u32], image: &[u8]) -> bool
         return false;
     }
     let length = written.length;
-    check::same(octets::first(&buffer, length), image)
+    octets::first(&buffer, length) == image
 }
 
 fn state_is(state: State, image: &[u8]) -> bool
