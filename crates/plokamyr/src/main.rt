@@ -1,5 +1,6 @@
 // Reads an image from standard input, steps its words until one is refused, and writes the lines to standard output.
 #![tactic(auto)]
+
 use std::io;
 use std::io::{Read, Write};
 
