@@ -1,6 +1,7 @@
 // Numbers seen as bits: masks of a word, counts of its bits, and the four element sizes.
 // Every function is total and answers a number that its definition in specs/ gives; a count of ones is the processor's own operation.
 #![tactic(auto)]
+
 ghost use Rattle.std.specs.Prelude.{◌≡◌, ◌-◌, min};
 ghost use Rattle.bits.specs.Bits.{test_bit, number, below, element_bit};
 ghost use Rattle.bits.specs.Search.{count, first_from, after_last};

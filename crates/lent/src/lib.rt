@@ -1,5 +1,6 @@
 // One step over a lent state, changed where it stands, with the meaning and the refusals of the step by value; a refusal leaves the state as it was.
 #![tactic(auto)]
+
 ghost use Rattle.std.specs.Prelude.{◌≡◌};
 ghost use Rattle.machine.specs.Step.{step_of};
 

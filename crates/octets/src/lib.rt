@@ -1,6 +1,7 @@
 // The bytes of a slice, whatever its length: one of them, the first, what is left, and numbers, lowest byte first.
 // A byte past the end reads as 0; nothing is asked of the caller.
 #![tactic(auto)]
+
 ghost use Rattle.std.specs.Prelude.{◌≡◌, ◌≤◌, ◌<◌, min, length, take, drop, get_or};
 ghost use Rattle.octets.specs.Bytes.{value, number_at};
 

@@ -1,6 +1,7 @@
 // The replies: what a request is answered with, and the number of each, 0 to 15. 0 is done; every other refuses the request, and all but 12 then leave
 // the state and lent memory as they were.
 #![tactic(auto)]
+
 ghost use Rattle.std.specs.Prelude.{◌≡◌};
 ghost use Rattle.replies.specs.Reply.{number_of, is_done};
 
