@@ -3,7 +3,7 @@ use mathlib.Core.List.{List, [], ◌∷◌}
 use mathlib.Core.Path.{◌≡◌, refl, ◌∙◌}
 use native.Mathlib.Omega.{arith}
 use Prim.Native.Nat.{ℕ}
-use lib.ListN.{length, replicate}
+use lib.ListN.{replicate}
 use Rattle.registers.specs.Legal.{is_length}
 use Rattle.fold.specs.Table.{fold_unit}
 use Rattle.fold.specs.Fold.{longest, fold_of}

@@ -18,7 +18,6 @@ use Rattle.predicates.specs.Predicate.{bit_at, pack, active, elements, all_false
 use Rattle.predicates.proofs.Words.{pack-bit}
 use Rattle.tally.specs.declared.Counts.{Counts}
 use Rattle.tally.specs.Counts.{true_elements, counts_of, no_counts}
-use Rattle.registers.specs.declared.State.{State}
 use Rattle.registers.specs.State.{all_counts, assembled, made}
 
 past_end : (b : ℕ) → 4 ≤ b / 64 → bit_at all_false b ≡ false

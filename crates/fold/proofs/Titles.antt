@@ -25,7 +25,7 @@ use Rattle.registers.proofs.Registers.{all_length}
 use Rattle.words.specs.Words.{size_of}
 use Rattle.walk.specs.declared.Walked.{Walked}
 use Rattle.walk.specs.Demand.{Demand3, needed}
-use Rattle.walk.specs.Given.{GoodRegisters, Accepted}
+use Rattle.walk.specs.Given.{GoodRegisters}
 use Rattle.walk.specs.Lengths.{Typed}
 use Rattle.walk.specs.Plain.{Walk, rounds, budget_for}
 use Rattle.walk.specs.Walk.{plain_walk, walked, refusal_of}

@@ -1,5 +1,5 @@
 -- Logic on predicates: operations on whole words are the operation on each bit. Shown once over the operation. Assumes nothing.
-use Rattle.std.proofs.Common.{◌≡◌, ℕ, ◌<◌, ◌≤◌, Bool, true, false, not, ◌&&◌, ◌||◌, sym, refl, ap, ◌∙◌, ap₂, true≢false}
+use Rattle.std.proofs.Common.{◌≡◌, ℕ, ◌<◌, Bool, true, false, not, ◌&&◌, ◌||◌, sym, refl, ap, ◌∙◌, ap₂, true≢false}
 use mathlib.Core.Bool.{xor, and-true, and-false, or-false, false≢true}
 use Rattle.bits.specs.declared.Size.TheVariants as Sz
 use Rattle.bits.specs.Choice.{pick}

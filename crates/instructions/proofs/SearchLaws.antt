@@ -1,18 +1,18 @@
 -- Laws of PFIRST's search and of CNTP's count. Assumes nothing.
-use Rattle.std.proofs.Common.{◌≡◌, ℕ, ◌+◌, ◌-◌, ◌*◌, ◌/◌, ◌%◌, ◌^◌, ◌<◌, ◌≤◌, Bool, true, false, not, ◌&&◌, ◌||◌, eqb, sym, refl, ap, ◌∙◌, ap₂, mul-one, arith, le-ltb, lt-ltb}
+use Rattle.std.proofs.Common.{◌≡◌, ℕ, ◌+◌, ◌-◌, ◌*◌, ◌%◌, ◌^◌, ◌<◌, ◌≤◌, Bool, true, false, ◌&&◌, ◌||◌, eqb, sym, refl, ap, ◌∙◌, ap₂, mul-one, arith, le-ltb, lt-ltb}
 use native.Mathlib.Decide.{dec_lt}
 use Rattle.bits.specs.declared.Size.{Size}
 use Rattle.bits.specs.declared.Size.TheVariants as Sz
 use Rattle.bits.specs.Choice.{pick}
 use Rattle.bits.specs.Search.{count, first_from, after_last}
 use Rattle.bits.specs.Size.{shift}
-use Rattle.bits.proofs.Searches.{count_cong, count-le, first_found, last_le}
+use Rattle.bits.proofs.Searches.{count_cong, first_found, last_le}
 use Rattle.predicates.specs.declared.Predicate.{Predicate}
 use Rattle.predicates.specs.Predicate.{bit_at, pack, all_false, active, touched, spread, elements, live_of}
 use Rattle.predicates.proofs.ElementBits.{in_bits}
 use Rattle.predicates.specs.PredTest.{pred_test}
 use Rattle.predicates.proofs.Flagging.{test_cong, none-tests}
-use Rattle.predicates.proofs.Live.{elements_fit, elements-le, last_live, test_live, active-live, first_live, first-live-none, only_element}
+use Rattle.predicates.proofs.Live.{elements_fit, last_live, test_live, active-live, first_live, first-live-none, only_element}
 use Rattle.predicates.proofs.Words.{pack-bit, pack_cong}
 use Rattle.instructions.specs.Searches.{first_result, next_element, next_result}
 

@@ -20,7 +20,6 @@ use Rattle.walk.specs.Demand.{Demand3}
 use Rattle.shared.specs.declared.Kernel.{Kernel}
 use Rattle.shared.specs.declared.Kernel.TheVariants.{First, Second}
 use Rattle.shared.specs.declared.Shared.{Shared}
-use Rattle.shared.specs.declared.Stepped.{Stepped}
 use Rattle.shared.specs.declared.Walked.{Walked}
 use Rattle.shared.specs.Inside.{may_step, barred}
 use Rattle.shared.specs.Ownership.{may_walk}

@@ -9,10 +9,9 @@ use Rattle.replies.proofs.Replies.{not_done}
 use Rattle.registers.specs.declared.State.{State}
 use Rattle.registers.specs.State.{with_flags}
 use Rattle.words.specs.Words.{size_of}
-use Rattle.walk.specs.Budgets.{Adds}
 use Rattle.walk.specs.Demand.{needed}
 use Rattle.walk.specs.Lengths.{Typed}
-use Rattle.walk.specs.Plain.{WalkInstructions, Walk, begin, run}
+use Rattle.walk.specs.Plain.{WalkInstructions, Walk, run}
 use Rattle.walk.specs.Resumed.{grown, Resumes}
 use Rattle.walk.specs.Walk.{instructions_of, walked, whole_of}
 use Rattle.walk.specs.Walk as Ordinary

@@ -1,7 +1,6 @@
 -- The counts of a word at the four sizes, from its bytes' bits. Assumes nothing.
-use mathlib.Core.Bool.{Bool}
 use mathlib.Core.Path.{◌≡◌, refl, sym, ap, ap₂, ◌∙◌}
-use Prim.Native.Nat.{ℕ, zero, suc, ◌+◌, ◌*◌, ◌/◌, ◌%◌, ◌^◌, ◌≤◌, ◌<◌}
+use Prim.Native.Nat.{ℕ, zero, suc, ◌+◌, ◌*◌, ◌/◌, ◌%◌, ◌^◌}
 use native.Mathlib.Nat.{mod-lt, add-mul, add_comm, suc-mul}
 use native.Mathlib.Omega.{arith}
 use lib.Pow.{shr-shr}
@@ -11,7 +10,7 @@ use Rattle.bits.specs.Search.{count}
 use Rattle.bits.proofs.Bits.{digit-eq, test_bit-low}
 use Rattle.bits.proofs.Searches.{count_add, count_cong}
 use Rattle.tally.specs.Tally.{packed, true_of, tally}
-use Rattle.tally.proofs.Sums.{odds, four_odds}
+use Rattle.tally.proofs.Sums.{odds}
 
 bit : (w j : ℕ) → digit (test_bit w j) ≡ w / 2 ^ j % 2
 unfolding test_bit

@@ -1,12 +1,12 @@
 -- Planes of bits, and the sums of their bytes. Assumes nothing.
 use mathlib.Core.Path.{◌≡◌, refl, sym, ap, ap₂, ◌∙◌}
-use Prim.Native.Nat.{ℕ, zero, suc, ◌+◌, ◌*◌, ◌/◌, ◌%◌, ◌^◌, ◌≤◌, ◌<◌}
+use Prim.Native.Nat.{ℕ, zero, suc, ◌+◌, ◌*◌, ◌/◌, ◌%◌, ◌≤◌, ◌<◌}
 use native.Mathlib.Nat.{mod-lt, div-add-mod'}
 use native.Mathlib.Omega.{arith}
 use lib.Arith.{digits_div, digits_mod}
-use lib.Bits.{bit_and, and_block, and_mask, and_zero_r, and_le_r}
+use lib.Bits.{bit_and, and_block, and_mask, and_zero_r}
 use lib.Dec.{lit<}
-use lib.Pow.{pow_pos, mod-mod-pow, mod-pow-add}
+use lib.Pow.{mod-mod-pow, mod-pow-add}
 use Rattle.tally.specs.Planes.{plane, lows, low_sum, byte_sum}
 
 -- m bytes alike

@@ -1,10 +1,10 @@
 -- The sums of the planes are the four counts of the words, and of a predicate. Assumes nothing.
 use mathlib.Core.Bool.{Bool, true, false}
 use mathlib.Core.Path.{◌≡◌, refl, sym, ap, ap₂, ◌∙◌, subst}
-use Prim.Native.Nat.{ℕ, zero, suc, ◌+◌, ◌*◌, ◌/◌, ◌%◌, ◌^◌, ◌≤◌, ◌<◌}
+use Prim.Native.Nat.{ℕ, ◌+◌, ◌*◌, ◌/◌, ◌%◌, ◌^◌, ◌≤◌, ◌<◌}
 use native.Mathlib.Nat.{add-mul, mul_assoc, mul-lt-mul_of_pos_right, add-le-add, le_trans, le_of_eq}
 use native.Mathlib.Omega.{arith}
-use lib.Bits.{bit_and, and_le_r}
+use lib.Bits.{and_le_r}
 use lib.Pow.{pow_pos}
 use Rattle.bits.specs.Bits.{test_bit}
 use Rattle.bits.specs.Search.{count}
@@ -16,7 +16,7 @@ use Rattle.tally.specs.declared.Planes.{Planes}
 use Rattle.tally.specs.Planes.{plane, lows, low_sum, planes_of, planes_in, sums_of}
 use Rattle.tally.specs.Tally.{packed, true_of, tally, tally_of, tally_in}
 use Rattle.tally.proofs.Sums.{rep, odds, four_odds, lows_is, plane_is, plane-low, plane_high, planes_low, planes_high}
-use Rattle.tally.proofs.Sizes.{twos, tally_is}
+use Rattle.tally.proofs.Sizes.{tally_is}
 
 -- ---- bounds
 

@@ -1,20 +1,19 @@
 -- A predicate under a vector's elements: what the four counts are, and that its first word is enough up to 64 bits. Assumes nothing.
 use mathlib.Core.Bool.{Bool, true, false, ◌&&◌}
 use mathlib.Core.List.{[], ◌∷◌}
-use mathlib.Core.Path.{◌≡◌, refl, sym, ap, ap₂, ◌∙◌}
+use mathlib.Core.Path.{◌≡◌, refl, sym, ap, ◌∙◌}
 use Prim.Native.Nat.{ℕ, ◌+◌, ◌*◌, ◌/◌, ◌%◌, ◌^◌, ◌≤◌, ◌<◌}
 use native.Mathlib.Nat.{mul-le-mul_right, mul-lt-mul_of_pos_right, le_trans, lt_of_lt_of_le, div-one, min-le_right}
 use native.Mathlib.Omega.{arith}
-use lib.Dec.{leb, ltb, eqb}
+use lib.Dec.{leb, ltb}
 use lib.Pow.{pow_pos}
-use borrow.Author.Tests.{le-leb, lt-ltb, le-ltb, leb-true, eq-eqb, ne_eqb}
+use borrow.Author.Tests.{lt-ltb, le-ltb, leb-true}
 use Rattle.bits.specs.declared.Size.{Size}
 use Rattle.bits.specs.declared.Size.TheVariants.{B, H, S, D}
 use Rattle.bits.specs.Bits.{test_bit}
-use Rattle.bits.specs.Choice.{pick}
-use Rattle.bits.specs.Search.{count, some}
+use Rattle.bits.specs.Search.{count}
 use Rattle.bits.specs.Size.{shift}
-use Rattle.bits.proofs.Searches.{never, count_cong, count_end_lem, count-le}
+use Rattle.bits.proofs.Searches.{count_cong, count_end_lem, count-le}
 use Rattle.predicates.specs.declared.Predicate.{Predicate}
 use Rattle.predicates.specs.Predicate.{bit_at, pack, active, has_bit_from, elements, live_of, predicate_length}
 use Rattle.predicates.proofs.ElementBits.{byte-bit}

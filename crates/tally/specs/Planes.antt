@@ -1,5 +1,5 @@
 -- Bytes of words, and sums of them, as the code adds them up; a reader of the promises needs Counts alone.
-use Rattle.std.specs.Prelude.{ℕ, zero, suc, ◌+◌, ◌*◌, ◌/◌, ◌%◌, ◌^◌, Bool, get_or}
+use Rattle.std.specs.Prelude.{ℕ, zero, suc, ◌+◌, ◌*◌, ◌/◌, ◌%◌, Bool, get_or}
 use Rattle.bits.specs.Choice.{pick}
 use Rattle.predicates.specs.declared.Predicate.{Predicate}
 use Rattle.tally.specs.declared.Planes.{Planes}

@@ -10,7 +10,7 @@ use Rattle.walk.specs.Budgets.{Adds, SameResults}
 use Rattle.walk.specs.Demand.{needed}
 use Rattle.walk.specs.Lengths.{Typed}
 use Rattle.walk.specs.Plain.{WalkInstructions, Walk, begin, run}
-use Rattle.walk.specs.Walk.{distance, instructions_of, plain_walk, walked, refusal_of, whole_of, walk_of}
+use Rattle.walk.specs.Walk.{distance, instructions_of, plain_walk, walked, refusal_of, whole_of}
 use Rattle.walk.proofs.Accepted.{Within, accepted_within}
 use Rattle.walk.proofs.Answered.{whole_accepted, whole-refused, answer_accepted, answer-refused}
 use Rattle.walk.proofs.Closed.{enough, finished}

@@ -3,24 +3,22 @@ use Rattle.std.proofs.Common.{◌≡◌, ℕ, zero, suc, ◌+◌, ◌-◌, ◌*�
 use native.Mathlib.Decide.{ℕ_discrete}
 use lib.Seq.{set-get_or}
 use Rattle.bits.specs.declared.Size.{Size}
-use Rattle.bits.specs.Size.{shift}
 use Rattle.predicates.specs.declared.Flags.{Flags}
 use Rattle.predicates.specs.declared.Predicate.{Predicate}
-use Rattle.predicates.specs.Predicate.{all_false, elements, span_of}
+use Rattle.predicates.specs.Predicate.{all_false, elements}
 use Rattle.replies.specs.declared.Reply.TheVariants.{Done}
 use Rattle.registers.specs.declared.State.{State}
 use Rattle.registers.specs.State.{read_x, read_p, with_x, with_p, with_flags}
 use Rattle.registers.proofs.Legality.{counts_stay}
 use Rattle.words.specs.Words.{size_of}
 use Rattle.walk.specs.Demand.{Demand3, needed, final_state}
-use Rattle.walk.specs.Given.{Accepted}
 use Rattle.walk.specs.Lengths.{Typed}
-use Rattle.walk.specs.Plain.{WalkInstructions, Walk}
+use Rattle.walk.specs.Plain.{Walk}
 use Rattle.walk.specs.Resumed.{passed_after, Stopped, grown, Resumes}
 use Rattle.walk.specs.Walk.{distance, instructions_of, plain_walk, walked, refusal_of, whole_of}
 use Rattle.walk.proofs.Accepted.{Within, accepted_when, accepted_within}
 use Rattle.walk.proofs.Answered.{whole_accepted}
-use Rattle.walk.proofs.Closed.{lanes_at, Stands, stands, stopped, rounds-le, filled, filled_joined, filled_length}
+use Rattle.walk.proofs.Closed.{lanes_at, Stands, stands, stopped, rounds-le, filled, filled_joined}
 use Rattle.walk.proofs.Closed.Stands.{begins, enters, visits, adds, ends}
 use Rattle.walk.proofs.Demands.{demand3, list_filled}
 use Rattle.walk.proofs.Kept.{plain_kept}

@@ -1,5 +1,5 @@
 -- The four instructions on a state whose Xn, Pd, Pk and flags are held apart. Assumes nothing.
-use Rattle.std.proofs.Common.{◌≡◌, ℕ, suc, ◌+◌, ◌-◌, ◌*◌, ◌/◌, ◌%◌, ◌^◌, ◌<◌, ◌≤◌, true, false, not, ◌&&◌, eqb, List, sym, refl, ap, ◌∙◌, ap₂, arith, w64}
+use Rattle.std.proofs.Common.{◌≡◌, ℕ, suc, ◌+◌, ◌*◌, ◌%◌, ◌^◌, ◌<◌, ◌≤◌, true, false, not, ◌&&◌, eqb, List, sym, refl, ap, ◌∙◌, ap₂, arith, w64}
 use lib.Seq.{set-get_or}
 use Rattle.bits.specs.declared.Size.{Size}
 use Rattle.bits.specs.Search.{count, first_from, after_last}

@@ -19,7 +19,6 @@ use Rattle.words.specs.declared.Instruction.TheVariants.{While, IncDec, Pnext, P
 use Rattle.words.specs.Words.{size_of}
 use Rattle.machine.specs.Execute.{execute_of}
 use Rattle.walk.specs.declared.Phase.{Phase}
-use Rattle.walk.specs.declared.Phase.TheVariants as Phase
 use Rattle.walk.specs.declared.Walked.{Walked}
 use Rattle.walk.specs.Plain.{WalkInstructions, Walk, begin, run}
 

@@ -1,6 +1,5 @@
 -- `fold_each` meets its contract. Assumes nothing.
 use mathlib.Core.Path.{refl}
-use Prim.Native.Nat.{◌-◌}
 use native.Mathlib.Omega.{arith}
 use borrow.Author.Rules.{rules}
 use Rattle.fold.proofs.Folding.{none_folded, one_folded}

@@ -1,6 +1,6 @@
 -- `number` meets its contract: the loop goes from the last byte down, and `v` is the number of those passed. Assumes nothing.
 use mathlib.Core.Path.{◌≡◌}
-use Prim.Native.Nat.{◌-◌, ◌≤◌}
+use Prim.Native.Nat.{◌≤◌}
 use lib.ListN.{length, drop}
 use Rattle.octets.specs.Bytes.{value}
 use Rattle.octets.proofs.number.Given as goal

@@ -1,5 +1,4 @@
 -- `held32` meets its contract. Before turn i the operand is that of comparison i, and the first that fails is sought from i on. Assumes nothing.
-use Rattle.std.proofs.Common.{◌-◌}
 use Rattle.scalars.proofs.Comparisons.{begin, again, stops, ends}
 use Rattle.scalars.proofs.held32.Goals as goal
 

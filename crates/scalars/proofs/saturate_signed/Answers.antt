@@ -3,7 +3,6 @@ use Rattle.std.proofs.Common.{◌≡◌, true, false, ℤ, sym, ap, ◌∙◌, m
 use mir.Facts.{sfits_widen}
 use Rattle.scalars.specs.Value.{width_of}
 use Rattle.scalars.proofs.Clamps.{signed_done}
-use Rattle.scalars.proofs.Values.{passed}
 use Rattle.scalars.proofs.saturate_signed.Goals as goal
 
 -- a 32-bit value, passed on at 64 bits

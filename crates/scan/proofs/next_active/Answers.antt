@@ -1,6 +1,5 @@
 -- `next_active` meets its contract. The search from `next` finds what the search from `start` finds. Assumes nothing.
 use mathlib.Core.Path.{sym, ◌∙◌}
-use Prim.Native.Nat.{◌-◌}
 use Rattle.bits.proofs.Searches.{first_end, first_hit, first_miss}
 use Rattle.scan.proofs.next_active.Goals as goal
 

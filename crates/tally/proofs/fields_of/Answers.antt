@@ -1,6 +1,4 @@
 use Rattle.tally.proofs.Pairs.{nibs, fields_is}
-use Rattle.tally.proofs.fields_of.Reads as reads
-use Rattle.tally.proofs.fields_of.Lts as lts
 use Rattle.tally.proofs.fields_of.Goals as goal
 
 -- src/lib.rt:11:1

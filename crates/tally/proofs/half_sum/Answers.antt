@@ -4,10 +4,6 @@ use native.Mathlib.Omega.{arith}
 use Rattle.tally.specs.Planes.{byte_sum}
 use Rattle.tally.proofs.Sums.{sum_halves}
 use Rattle.tally.proofs.Total.{lows-le}
-use Rattle.tally.proofs.half_sum.Reads as reads
-use Rattle.tally.proofs.half_sum.Lts as lts
-use Rattle.tally.proofs.byte_sum.Reads as byte-sum-reads
-use Rattle.tally.proofs.low.Reads as low_reads
 use Rattle.tally.proofs.half_sum.Goals as goal
 
 -- src/lib.rt:41:14

@@ -1,6 +1,4 @@
 use Rattle.tally.proofs.Sums.{rep, lows_is}
-use Rattle.tally.proofs.low.Reads as reads
-use Rattle.tally.proofs.low.Lts as lts
 use Rattle.tally.proofs.low.Goals as goal
 
 -- src/lib.rt:17:1

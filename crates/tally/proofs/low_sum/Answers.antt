@@ -1,10 +1,6 @@
 use mathlib.Core.Path.{ap, ◌∙◌}
 use Rattle.tally.specs.Planes.{byte_sum}
 use Rattle.tally.proofs.Sums.{sum_lows}
-use Rattle.tally.proofs.low_sum.Reads as reads
-use Rattle.tally.proofs.low_sum.Lts as lts
-use Rattle.tally.proofs.byte_sum.Reads as byte-sum-reads
-use Rattle.tally.proofs.low.Reads as low_reads
 use Rattle.tally.proofs.low_sum.Goals as goal
 
 -- src/lib.rt:34:14

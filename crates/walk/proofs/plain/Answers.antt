@@ -7,7 +7,7 @@ use Rattle.words.specs.Words.{size_of}
 use Rattle.walk.specs.Lengths.{Typed}
 use Rattle.walk.specs.Walk.{refusal_of}
 use Rattle.walk.proofs.Accepted.{x_fits, Within, accepted_within}
-use Rattle.walk.proofs.Loop.{as_left, bit-at, first-turn, list_kept, once_ended, once_spent, answers, turn-pfalse, turn_whilelo, turn_incp, turn-past, has_place, turn_to}
+use Rattle.walk.proofs.Loop.{as_left, bit-at, first-turn, once_ended, once_spent, answers, turn-pfalse, turn_whilelo, turn_incp, turn-past, has_place, turn_to}
 use Rattle.walk.proofs.plain.Goals as goal
 use Rattle.walk.proofs.plain.Goals.{Start, After-wrapping_add_u64, in-Pfalse, in-Whilelo, in-Pnext+then-elements-e, in-Pnext+else-elements-e, in-Incp, then-loop-count-test+else-not-ended, else-loop-count-test}
 

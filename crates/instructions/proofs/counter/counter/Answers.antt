@@ -1,5 +1,4 @@
 -- `counter` meets its contract. Assumes nothing.
-use Rattle.std.proofs.Common.{◌-◌}
 use Rattle.instructions.proofs.CounterLaws.{counter-none, counter_down, counter_full, counter_part}
 use Rattle.instructions.proofs.counter.counter.Goals as goal
 

@@ -1,7 +1,6 @@
 -- `run` meets its contract. Assumes nothing.
 use mathlib.Core.Bool.{not}
 use mathlib.Core.Path.{refl, ap}
-use Prim.Native.Nat.{◌-◌}
 use native.Mathlib.Omega.{arith}
 use borrow.Author.Rules.{rules}
 use Rattle.machine.proofs.Steps.{run-illegal, run-legal, run_begins, kept_on, run_on, run_stops, run_ends}

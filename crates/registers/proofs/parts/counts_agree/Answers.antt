@@ -1,7 +1,7 @@
 -- `counts_agree` meets its contract: the number joined so far is 0 exactly if the first i registers agree. Assumes nothing.
 use mathlib.Core.Bool.{not}
 use mathlib.Core.Path.{refl, ap, ◌∙◌}
-use Prim.Native.Nat.{ℕ, ◌-◌}
+use Prim.Native.Nat.{ℕ}
 use native.Mathlib.Omega.{arith}
 use Rattle.bits.specs.Search.{some}
 use Rattle.registers.specs.Parts.{predicates_of, counts_from}

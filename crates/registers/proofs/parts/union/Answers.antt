@@ -1,6 +1,5 @@
 -- `union` meets its contract. Assumes nothing.
 use mathlib.Core.Path.{ap, ◌∙◌}
-use Prim.Native.Nat.{◌-◌}
 use native.Mathlib.Omega.{arith}
 use Rattle.registers.proofs.Legality.{union_of, union-none, union_more}
 use Rattle.registers.proofs.PartLaws.{predicates_length, read_in}

@@ -1,5 +1,4 @@
 -- `words_of` meets its contract. Assumes nothing.
-use Prim.Native.Nat.{◌-◌}
 use native.Mathlib.Omega.{arith}
 use lib.ListN.{length-set}
 use Rattle.registers.specs.Parts.{predicates_of}

@@ -1,5 +1,4 @@
 -- `words::write::word_of` meets its contract: number by number, what is placed and what is left make up the row's word.
-use Prim.Native.Nat.{◌-◌}
 use borrow.Author.Rules.{rules}
 use Rattle.words.proofs.Placing.{low_small, width_small, start_sum, start_within, more_sum, more_within, too_wide, end_sum, end_within, row-refused, row_written, row_lt}
 use Rattle.words.proofs.write.word_of.Goals as goal
