@@ -1,13 +1,10 @@
 -- What the plain walk comes to, from the laws of its four instructions. Assumes nothing but those laws.
-use Rattle.std.proofs.Common.{◌≡◌, ℕ, zero, suc, ◌+◌, ◌-◌, ◌*◌, ◌<◌, ◌≤◌, min, Bool, true, false, List, ◌++◌, length, get_or, take, drop, set, sym, refl, ap, ◌∙◌, ap₂, le_of_lt, add-suc, mul-le-mul_right, suc-mul, le-div_iff_mul-le, zero-mul, add-one, arith, length-append, length-drop, length-set, length-take, get_or-drop, get_or-set_other, get_or-take, get_or-set_same, get_or-append-add, ext_get_or}
+use Rattle.std.proofs.Common.{◌≡◌, ℕ, zero, suc, ◌+◌, ◌-◌, ◌*◌, ◌<◌, ◌≤◌, min, Bool, true, false, List, length, get_or, set, sym, refl, ap, ◌∙◌, add-zero, le_of_lt, add-suc, suc-mul, le-div_iff_mul-le, zero-mul, add-one, arith, length-set, get_or-set_other, get_or-set_same, ext_get_or}
 use native.Mathlib.Decide.{dec_lt}
-use lib.ListN.{get_or-append}
-use Rattle.bits.proofs.Searches.{never}
 use Rattle.walk.specs.declared.Phase.{Phase}
-use Rattle.walk.specs.declared.Phase.TheVariants.{Pfalse, Whilelo, Pnext, Incp}
+use Rattle.walk.specs.declared.Phase.TheVariants.{Whilelo, Pnext, Incp}
 use Rattle.walk.specs.Plain.{WalkInstructions, Walk, begin, turn, run, rounds, budget_for}
-use Rattle.walk.specs.Resumed.{passed_after, count_after, Stopped}
-use Rattle.walk.proofs.Runs.{run_one, count-run, count_most}
+use Rattle.walk.proofs.Runs.{run-add, run_ended, run_one, Later, later_run, later_refl}
 
 -- The lanes of a round that begins after `o` of `d` positions, with `e` lanes to a vector
 abbrev pub lanes_at : ℕ → ℕ → ℕ → ℕ
@@ -60,243 +57,136 @@ module _ (start : ℕ) (l : List ℕ) where
     | no j ↦ let same : i ≡ k = omega arith in rw same (get_or-set_same (filled start l k) k (start + k) 0 (omega (arith, filled_length k)))
   ]
 
--- filled up to k, and then its part from o on filled again: as if filled at once
-pub filled_joined : (start : ℕ) (l : List ℕ) (o k j : ℕ) → o ≤ k → k ≤ o + j → o + j ≤ length l
-    → take o (filled start l k) ++ filled (start + o) (drop o (filled start l k)) j ≡ filled start l (o + j)
-filled_joined start l o k j ok kj room = ext_get_or 0 _ _ lengths at
-  where
-    f : List ℕ
-    f = filled start l k
-
-    head : length (take o f) ≡ o
-    head = omega (arith, length-take o f, filled_length start l k)
-
-    rest : length (drop o f) ≡ length l - o
-    rest = omega (arith, length-drop o f, filled_length start l k)
-
-    g : List ℕ
-    g = filled (start + o) (drop o f) j
-
-    lengths : length (take o f ++ g) ≡ length (filled start l (o + j))
-    lengths = omega (arith, length-append (take o f) g, head, rest, filled_length (start + o) (drop o f) j, filled_length start l (o + j))
-
-    before : (i : ℕ) → i < o → get_or (take o f ++ g) i 0 ≡ get_or (filled start l (o + j)) i 0
-    before i h =
-        get_or-append (take o f) g 0 i (omega (arith, head)) ∙ get_or-take o f i 0 h
-        ∙ filled_at start l k i (omega arith) (omega arith) ∙ sym (filled_at start l (o + j) i (omega arith) room)
-
-    from : (i : ℕ) → o ≤ i → get_or (take o f ++ g) i 0 ≡ get_or g (i - o) 0
-    from i h = let split : i ≡ length (take o f) + (i - o) = omega (arith, head) in ap (λ n. get_or (take o f ++ g) n 0) split ∙ get_or-append-add (take o f) g (i - o) 0
-
-    again : (i : ℕ) → o ≤ i → i < o + j → get_or (take o f ++ g) i 0 ≡ get_or (filled start l (o + j)) i 0
-    again i h q =
-        let same : start + o + (i - o) ≡ start + i = omega arith in
-        from i h ∙ filled_at (start + o) (drop o f) j (i - o) (omega arith) (omega (arith, rest)) ∙ same ∙ sym (filled_at start l (o + j) i q room)
-
-    past : (i : ℕ) → o + j ≤ i → get_or (take o f ++ g) i 0 ≡ get_or (filled start l (o + j)) i 0
-    past i h =
-        let same : o + (i - o) ≡ i = omega arith in
-        from i (omega arith) ∙ filled_past (start + o) (drop o f) j (i - o) (omega arith) ∙ get_or-drop o f (i - o) 0 ∙ ap (λ n. get_or f n 0) same
-        ∙ filled_past start l k i (omega arith) ∙ sym (filled_past start l (o + j) i h)
-
-    at : (i : ℕ) → i < length (take o f ++ g) → get_or (take o f ++ g) i 0 ≡ get_or (filled start l (o + j)) i 0
-    at i _ = elim (dec_lt i o) [ yes h ↦ before i h | no h ↦ elim (dec_lt i (o + j)) [ yes q ↦ again i (omega arith) q | no q ↦ past i (omega arith) ] ]
-
 module _ {S : Type 0} (m : WalkInstructions S) (s : S) (l : List ℕ) (start d e : ℕ) (lane : ℕ → ℕ → S) (Ready : ℕ → S → Type 0)
     (L : Laws m s start d e lane Ready) (pos : 0 < e) where
-  -- the walk before instruction p, in state t after k positions and c instructions
-  abbrev pub at : Phase → S → ℕ → ℕ → Walk S
+  -- The walk before instruction p, in state t after k positions and c instructions
+  abbrev at : Phase → S → ℕ → ℕ → Walk S
   at p t c k = record { state = t; list = filled start l k; count = c; visited = k; next = p; ended = false }
 
-  -- the walk after its last WHILELO
+  lanes : (o c j : ℕ) → o < d → j ≤ lanes_at e d o → run m j (at Pnext (lane o 0) c o) ≡ at Pnext (lane o j) (c + j) (o + j)
+  unfolding run filled
+  lanes o c zero h k = rw (add-zero, add-zero)
+  lanes o c (suc j) h k = rw (lanes o c j h (omega arith), L.next o j h (omega arith), L.hit o j h k, L.place o j h k, add-one, add-one, add-suc o j, add-suc c j)
+
+  enter : (o c : ℕ) (t : S) → o < d → Ready o t → run m 1 (at Whilelo t c o) ≡ at Pnext (lane o 0) (c + 1) o
+  unfolding run
+  enter o c t h r = rw (L.enters o t (omega arith) r, L.some o h)
+
+  pass : (o c k : ℕ) → o < d → turn m (at Pnext (lane o (lanes_at e d o)) c k) ≡ at Incp (lane o (suc (lanes_at e d o))) (c + 1) k
+  pass o c k h = rw (L.next o (lanes_at e d o) h (omega arith), L.miss o h)
+
+  -- One round
+  round : (o c : ℕ) (t : S) → o < d → Ready o t
+      → run m (lanes_at e d o + 3) (at Whilelo t c o) ≡ at Whilelo (m.incp (lane o (suc (lanes_at e d o)))) (c + (lanes_at e d o + 3)) (o + lanes_at e d o)
+  round o c t h r =
+      let w = lanes_at e d o in
+      let split : w + 3 ≡ 1 + w + 1 + 1 = omega arith in
+      let counted : c + 1 + w + 1 + 1 ≡ c + (1 + w + 1 + 1) = omega arith in
+      rw (split, run_one m, run_one m, run-add m 1 w, enter o c t h r, lanes o (c + 1) w h (omega arith), pass o (c + 1 + w) (o + w) h)
+      (ap (λ n. at Whilelo (m.incp (lane o (suc w))) n (o + w)) counted)
+
+  -- Before a WHILELO, after o positions and c instructions
+  record Before (o c : ℕ) : Type 0 where
+    state : S
+    ready : Ready o state
+    reached : run m c (begin s l) ≡ at Whilelo state c o
+
+  first : Before 0 1
+  unfolding run filled
+  first = record { state = m.pfalse s; ready = L.begins; reached = refl }
+
+  more : (o c : ℕ) → o < d → Before o c → Before (o + lanes_at e d o) (c + (lanes_at e d o + 3))
+  more o c h b = record {
+    state = m.incp (lane o (suc (lanes_at e d o)));
+    ready = L.adds o h;
+    reached = rw (run-add m c, b.reached) (round o c b.state h b.ready);
+  }
+
+  offset : ℕ → ℕ
+  offset r = min (r * e) d
+
+  none_yet : min (0 * e) d ≡ 0
+  none_yet = omega (arith, zero-mul e)
+
+  next-offset : (r : ℕ) → r < rounds d e → min (suc r * e) d ≡ min (r * e) d + lanes_at e d (min (r * e) d)
+  next-offset r h = omega (arith, suc-mul r e, rounds-lt d e r pos h)
+
+  next-count : (r : ℕ) → r < rounds d e
+      → 1 + min (suc r * e) d + 3 * suc r ≡ 1 + min (r * e) d + 3 * r + (lanes_at e d (min (r * e) d) + 3)
+  next-count r h = omega (arith, next-offset r h)
+
+  before-first : Before (min (0 * e) d) (1 + min (0 * e) d + 3 * 0)
+  before-first = rw none_yet first
+
+  before-next : (r : ℕ) → r < rounds d e → Before (min (r * e) d) (1 + min (r * e) d + 3 * r)
+      → Before (min (suc r * e) d) (1 + min (suc r * e) d + 3 * suc r)
+  before-next r h b = rw (next-count r h, next-offset r h) (more _ _ (omega (arith, rounds-lt d e r pos h)) b)
+
+  before : (r : ℕ) → r ≤ rounds d e → Before (min (r * e) d) (1 + min (r * e) d + 3 * r)
+  before zero h = before-first
+  before (suc r) h = before-next r h (before r (le_of_lt h))
+
+  -- The walk before its last WHILELO
+  last : Before d (d + 3 * rounds d e + 1)
+  last =
+      let all : min (rounds d e * e) d ≡ d = omega (arith, rounds-le d e pos) in
+      let counted : 1 + min (rounds d e * e) d + 3 * rounds d e ≡ d + 3 * rounds d e + 1 = omega (arith, rounds-le d e pos) in
+      rw (counted, all) at (before (rounds d e) (omega arith))
+
+  -- The walk after it
   abbrev pub finished : Walk S
   finished = record { state = lane d 0; list = filled start l d; count = budget_for d e; visited = d; next = Pnext; ended = true }
 
-  -- ---- where it stands under each budget
-
-  -- in round r: PFALSE to come; WHILELO; PNEXT, the cursor on the lane before j; INCP; or it has ended
-  pub data Stands (r : ℕ) (w : Walk S) : Type 0 where
-    begins : r ≡ 0 → w ≡ begin s l → Stands r w
-    enters : (t : S) → Ready (passed_after d e r) t → w ≡ at Whilelo t (count_after d e r) (passed_after d e r) → Stands r w
-    visits : (j : ℕ) → r < rounds d e → j ≤ lanes_at e d (passed_after d e r)
-        → w ≡ at Pnext (lane (passed_after d e r) j) (count_after d e r + 1 + j) (passed_after d e r + j) → Stands r w
-    adds : r < rounds d e
-        → w ≡ at Incp (lane (passed_after d e r) (suc (lanes_at e d (passed_after d e r)))) (count_after d e r + 1 + lanes_at e d (passed_after d e r) + 1) (passed_after d e r + lanes_at e d (passed_after d e r))
-        → Stands r w
-    ends : r ≡ rounds d e → w ≡ finished → Stands r w
-
-  -- in some round
-  abbrev pub Standing : Walk S → Type 0
-  Standing w = (r : ℕ) × (r ≤ rounds d e) × Stands r w
-
-  -- a round is left exactly if a position is
-  some_left : (r : ℕ) → r < rounds d e → passed_after d e r < d
-  some_left r h = omega (arith, rounds-lt d e r pos h)
-
-  round_left : (r : ℕ) → passed_after d e r < d → r < rounds d e
-  round_left r h = elim (dec_lt r (rounds d e)) [ yes k ↦ k | no k ↦ absurd (omega (arith, rounds-le d e pos, mul-le-mul_right {m = rounds d e} {n = r} e (omega arith))) ]
-
-  none_yet : passed_after d e 0 ≡ 0
-  none_yet = omega (arith, zero-mul e)
-
-  next_passed : (r : ℕ) → r < rounds d e → passed_after d e (suc r) ≡ passed_after d e r + lanes_at e d (passed_after d e r)
-  next_passed r h = omega (arith, suc-mul r e, rounds-lt d e r pos h)
-
-  next-count : (r : ℕ) → r < rounds d e → count_after d e (suc r) ≡ count_after d e r + 1 + lanes_at e d (passed_after d e r) + 1 + 1
-  next-count r h = omega (arith, next_passed r h)
-
-  -- ---- one instruction
-
-  after-pfalse : turn m (begin s l) ≡ at Whilelo (m.pfalse s) 1 0
-  unfolding filled
-  after-pfalse = refl
-
-  -- WHILELO finds lanes, or none is left
-  after_whilelo : (o c : ℕ) (t : S) → o < d → Ready o t → turn m (at Whilelo t c o) ≡ at Pnext (lane o 0) (c + 1) o
-  after_whilelo o c t h r = rw (L.enters o t (omega arith) r, L.some o h)
-
-  after_last_lem : (c : ℕ) (t : S) → Ready d t → c + 1 ≡ budget_for d e → turn m (at Whilelo t c d) ≡ finished
-  after_last_lem c t r q = rw (L.enters d t (omega arith) r, L.none, q)
-
-  -- PNEXT finds lane j, whose position goes to the next place, or none is left
-  after-pnext : (o c j : ℕ) → o < d → j < lanes_at e d o → turn m (at Pnext (lane o j) c (o + j)) ≡ at Pnext (lane o (suc j)) (c + 1) (o + suc j)
-  unfolding filled
-  after-pnext o c j h k = rw (L.next o j h (le_of_lt k), L.hit o j h k, L.place o j h k, add-one (o + j), add-suc o j)
-
-  after_lanes : (o c k : ℕ) → o < d → turn m (at Pnext (lane o (lanes_at e d o)) c k) ≡ at Incp (lane o (suc (lanes_at e d o))) (c + 1) k
-  after_lanes o c k h = rw (L.next o (lanes_at e d o) h (omega arith), L.miss o h)
-
-  one_on : (r : ℕ) (w : Walk S) → r ≤ rounds d e → Stands r w → Standing (turn m w)
-  one_on r w h (begins z q) =
-      (0, omega arith, enters (m.pfalse s) (rw none_yet L.begins) (ap (turn m) q ∙ after-pfalse ∙ ap₂ (at Whilelo (m.pfalse s)) (omega (arith, none_yet)) (sym none_yet)))
-  one_on r w h (enters t ready q) = elim (dec_lt (passed_after d e r) d) [ yes k ↦ lanes k | no k ↦ none (omega arith) ]
-    where
-      lanes : passed_after d e r < d → Standing (turn m w)
-      lanes k =
-          (r, h, visits 0 (round_left r k) (omega arith) (ap (turn m) q ∙ after_whilelo (passed_after d e r) (count_after d e r) t k ready ∙ ap₂ (at Pnext (lane (passed_after d e r) 0)) (omega arith) (omega arith)))
-
-      none : passed_after d e r ≡ d → Standing (turn m w)
-      none all =
-          let last : r ≡ rounds d e = elim (dec_lt r (rounds d e)) [ yes k ↦ absurd (omega (arith, some_left r k)) | no k ↦ omega arith ] in
-          (r, h, ends last (ap (turn m) (q ∙ ap (at Whilelo t (count_after d e r)) all) ∙ after_last_lem (count_after d e r) t (rw all at ready) (omega arith)))
-  one_on r w h (visits j k i q) = elim (dec_lt j (lanes_at e d (passed_after d e r))) [ yes x ↦ more x | no x ↦ none (omega arith) ]
-    where
-      more : j < lanes_at e d (passed_after d e r) → Standing (turn m w)
-      more x =
-          (r, h, visits (suc j) k x (ap (turn m) q ∙ after-pnext (passed_after d e r) _ j (some_left r k) x ∙ ap (λ c. at Pnext (lane (passed_after d e r) (suc j)) c (passed_after d e r + suc j)) (omega arith)))
-
-      none : j ≡ lanes_at e d (passed_after d e r) → Standing (turn m w)
-      none all =
-          (r, h, adds k (ap (turn m) (q ∙ ap (λ i. at Pnext (lane (passed_after d e r) i) (count_after d e r + 1 + i) (passed_after d e r + i)) all) ∙ after_lanes (passed_after d e r) _ _ (some_left r k)))
-  one_on r w h (adds k q) =
-      let t = m.incp (lane (passed_after d e r) (suc (lanes_at e d (passed_after d e r)))) in (
-        suc r,
-        k,
-        enters t (rw (next_passed r k) (L.adds (passed_after d e r) (some_left r k))) (ap (turn m) q ∙ ap₂ (at Whilelo t) (sym (next-count r k)) (sym (next_passed r k))),
-      )
-  one_on r w h (ends z q) = (r, h, ends z (ap (turn m) q))
-
-  pub stands : (b : ℕ) → Standing (run m b (begin s l))
-  unfolding run
-  stands zero = (0, omega arith, begins refl refl)
-  stands (suc b) = let (r, h, x) = stands b in one_on r (run m b (begin s l)) h x
-
-  -- ---- what is known of it there
-
-  record Known (r : ℕ) (w : Walk S) : Type 0 where
-    list : w.list ≡ filled start l w.visited
-    most : w.visited ≤ d
-    on : w.ended ≡ false → w.count < budget_for d e
-    over : w.ended ≡ true → w ≡ finished
-    reached : 0 < r → count_after d e r ≤ w.count
-    no_further : r < rounds d e → (w.ended ≡ false) × (w.count < count_after d e (suc r))
-    behind : passed_after d e r ≤ w.visited
-    unfinished : w.visited ≤ passed_after d e r + e
-
-  -- between two instructions
-  known_at : (r c k : ℕ) (p : Phase) (t : S) (w : Walk S) → w ≡ at p t c k → k ≤ d → c < budget_for d e → (0 < r → count_after d e r ≤ c) → (r < rounds d e → c < count_after d e (suc r))
-      → passed_after d e r ≤ k → k ≤ passed_after d e r + e → Known r w
-  known_at r c k p t w q kd cb re nf be un =
-      let cw : w.count ≡ c = ap (λ v. v.count) q in
-      let vw : w.visited ≡ k = ap (λ v. v.visited) q in
-      let going : w.ended ≡ false = ap (λ v. v.ended) q in
-      record {
-        list = ap (λ v. v.list) q ∙ ap (filled start l) (sym vw);
-        most = omega arith;
-        on = λ _. omega arith;
-        over = λ x. never x going;
-        reached = λ x. omega (arith, re x);
-        no_further = λ x. (going, omega (arith, nf x));
-        behind = omega arith;
-        unfinished = omega arith;
-      }
-
-  known : (r : ℕ) (w : Walk S) → r ≤ rounds d e → Stands r w → Known r w
-  unfolding filled
-  known r w h (begins z q) =
-      let none : passed_after d e r ≡ 0 = ap (passed_after d e) z ∙ none_yet in
-      known_at r 0 0 Pfalse s w q (omega arith) (omega arith) (λ x. omega arith) (λ _. omega arith) (omega arith) (omega arith)
-  known r w h (enters t ready q) = known_at r _ _ _ t w q (omega arith) (omega arith) (λ _. omega arith) (λ x. omega (arith, next-count r x)) (omega arith) (omega arith)
-  known r w h (visits j k i q) = known_at r _ _ _ _ w q (omega arith) (omega arith) (λ _. omega arith) (λ x. omega (arith, next-count r x)) (omega arith) (omega arith)
-  known r w h (adds k q) = known_at r _ _ _ _ w q (omega arith) (omega arith) (λ _. omega arith) (λ x. omega (arith, next-count r x)) (omega arith) (omega arith)
-  known r w h (ends z q) =
-      let cw : w.count ≡ budget_for d e = ap (λ v. v.count) q in
-      let vw : w.visited ≡ d = ap (λ v. v.visited) q in
-      let ended : w.ended ≡ true = ap (λ v. v.ended) q in
-      record {
-        list = ap (λ v. v.list) q ∙ ap (filled start l) (sym vw);
-        most = omega arith;
-        on = λ x. never ended x;
-        over = λ _. q;
-        reached = λ _. omega arith;
-        no_further = λ x. absurd (omega arith);
-        behind = omega arith;
-        unfinished = omega (arith, rounds-le d e pos, ap (λ n. n * e) z);
-      }
-
-  -- ---- at every budget
-
-  now : (b : ℕ) → Known (stands b).0 (run m b (begin s l))
-  now b = let (r, h, x) = stands b in known r (run m b (begin s l)) h x
+  pub at_end : run m (budget_for d e) (begin s l) ≡ finished
+  at_end =
+      let split : budget_for d e ≡ d + 3 * rounds d e + 1 + 1 = omega arith in
+      rw (split, run_one m, last.reached, L.enters d last.state (omega arith) last.ready, L.none)
 
   pub enough : (b : ℕ) → budget_for d e ≤ b → run m b (begin s l) ≡ finished
-  enough b h = go (run m b (begin s l)).ended refl
-    where
-      go : (z : Bool) → (run m b (begin s l)).ended ≡ z → run m b (begin s l) ≡ finished
-      go true q = (now b).over q
-      go false q = absurd (omega (arith, (now b).on q, count-run m b s l q))
+  enough b h =
+      let split : b ≡ budget_for d e + (b - budget_for d e) = omega arith in
+      rw (split, run-add m (budget_for d e), at_end, run_ended m (b - budget_for d e) finished refl)
 
+  -- Before the last WHILELO it has not ended, so it has not at any smaller budget
   pub short : (b : ℕ) → b < budget_for d e → (run m b (begin s l)).ended ≡ false
   short b h = go (run m b (begin s l)).ended refl
     where
+      k : ℕ
+      k = d + 3 * rounds d e + 1
+
       go : (z : Bool) → (run m b (begin s l)).ended ≡ z → z ≡ false
-      go true q = let end : (run m b (begin s l)).count ≡ budget_for d e = ap (λ v. v.count) ((now b).over q) in absurd (omega (arith, end, count_most m b s l))
       go false q = refl
+      go true q =
+          let split : k ≡ b + (k - b) = omega arith in
+          let same : run m k (begin s l) ≡ run m b (begin s l) = rw (split, run-add m b, run_ended m (k - b) (run m b (begin s l)) q) in
+          sym q ∙ ap (λ w. w.ended) (sym same ∙ last.reached)
 
-  pub visited_most : (b : ℕ) → (run m b (begin s l)).visited ≤ d
-  visited_most b = (now b).most
+  -- Every budget's walk goes on to the finished one
+  pub toward-end : (b : ℕ) → Later m (run m b (begin s l)) finished
+  toward-end b = elim (dec_lt b (budget_for d e)) [ yes h ↦ less h | no h ↦ rw (enough b (omega arith)) (later_refl m finished) ]
+    where
+      less : b < budget_for d e → Later m (run m b (begin s l)) finished
+      less h =
+          let split : b + (budget_for d e - b) ≡ budget_for d e = omega arith in
+          let same : run m (budget_for d e - b) (run m b (begin s l)) ≡ finished = sym (run-add m b _ _) ∙ rw split at_end in
+          rw same at (later_run m (budget_for d e - b) (run m b (begin s l)))
 
-  -- a PNEXT that finds a lane has a place in a list of at least d places
+  -- A PNEXT that finds a lane has a place in a list of at least d places
   pub place-below : (b : ℕ) → (run m b (begin s l)).ended ≡ false → (run m b (begin s l)).next ≡ Pnext
       → m.zero_flag (m.pnext (run m b (begin s l)).state) ≡ false → (run m b (begin s l)).visited < d
   place-below b q n z =
       let one : (run m (b + 1) (begin s l)).visited ≡ (run m b (begin s l)).visited + 1 = rw (run_one m, q, n, z) in
-      omega (arith, visited_most (b + 1))
+      omega (arith, (toward-end (b + 1)).further)
 
-  -- what the list holds
-  pub list_run : (b : ℕ) → (run m b (begin s l)).list ≡ filled start l (run m b (begin s l)).visited
-  list_run b = (now b).list
+  -- What the list holds under any budget
+  pub list_run : (b : ℕ) → d ≤ length l → (run m b (begin s l)).list ≡ filled start l (run m b (begin s l)).visited
+  list_run b h = ext_get_or 0 _ _ ((later_run m b (begin s l)).as_long ∙ sym (filled_length start l _)) go
+    where
+      w : Walk S
+      w = run m b (begin s l)
 
-  -- what INCP has passed
-  pub stopped : (b : ℕ) → Stopped d e b (passed_after d e (stands b).0) (run m b (begin s l)).visited
-  stopped b =
-      let k = now b in
-      record {
-        vectors = (stands b).0;
-        most = (stands b).1;
-        reached = λ q. omega (arith, k.reached q, count_most m b s l);
-        no_further = λ q. let (on, less) = k.no_further q in omega (arith, less, count-run m b s l on);
-        whole = refl;
-        behind = k.behind;
-        unfinished = k.unfinished;
-      }
+      go : (i : ℕ) → i < length w.list → get_or w.list i 0 ≡ get_or (filled start l w.visited) i 0
+      go i k = elim (dec_lt i w.visited) [
+        | yes j ↦ sym ((toward-end b).kept i j) ∙ filled_at start l d i (omega (arith, (toward-end b).further)) h ∙ sym (filled_at start l w.visited i j (omega (arith, (toward-end b).further)))
+        | no j ↦ (later_run m b (begin s l)).beyond i (omega arith) ∙ sym (filled_past start l w.visited i (omega arith))
+      ]

@@ -10,7 +10,7 @@ use Rattle.walk.specs.Demand.{Finished, Spent, Demand3, needed}
 use Rattle.walk.specs.Plain.{WalkInstructions, Walk, run, begin}
 use Rattle.walk.specs.Walk.{instructions_of, plain_walk, walked, distance}
 use Rattle.walk.proofs.Accepted.{Within}
-use Rattle.walk.proofs.Closed.{enough, short, list_run, visited_most, filled, filled_at, filled_past}
+use Rattle.walk.proofs.Closed.{enough, short, list_run, toward-end, filled, filled_at, filled_past}
 use Rattle.walk.proofs.Lanes.{laws, lane_at, Ready, final}
 use Rattle.walk.proofs.Runs.{run-add, Later, later_run, count-run}
 
@@ -37,10 +37,14 @@ module _ (size : Size) (n m d k : ℕ) (s : State) (l : List ℕ) (g : Within si
       record { reply = ap (λ (z : Bool). pick z Done BudgetSpent) e; count = count-run M b s l e }
 
   within : w.visited ≤ distance n m s
-  within = visited_most M s l (read_x s n) (distance n m s) (elements s.vl size) (lane_at size n m d k s) (Ready size n m d k s) (laws size n m d k s l g) g.lanes b
+  within = (toward-end M s l (read_x s n) (distance n m s) (elements s.vl size) (lane_at size n m d k s) (Ready size n m d k s) (laws size n m d k s l g) g.lanes b).further
 
+  list : w.list ≡ filled (read_x s n) l w.visited
+  list = list_run M s l (read_x s n) (distance n m s) (elements s.vl size) (lane_at size n m d k s) (Ready size n m d k s) (laws size n m d k s l g) g.lanes b g.room
+
+  -- the same for other files
   pub list_filled : w.list ≡ filled (read_x s n) l w.visited
-  list_filled = list_run M s l (read_x s n) (distance n m s) (elements s.vl size) (lane_at size n m d k s) (Ready size n m d k s) (laws size n m d k s l g) g.lanes b
+  list_filled = list
 
   pub demand3 : Demand3 size n m d k b s l w.list (walked w)
   demand3 = record {
@@ -49,8 +53,8 @@ module _ (size : Size) (n m d k : ℕ) (s : State) (l : List ℕ) (g : Within si
     enough = finished;
     short = spent;
     within = within;
-    visits = λ i q. ap (λ (v : List ℕ). get_or v i 0) list_filled ∙ filled_at (read_x s n) l w.visited i q (omega (arith, within, g.room));
-    untouched = λ i q. ap (λ (v : List ℕ). get_or v i 0) list_filled ∙ filled_past (read_x s n) l w.visited i q;
+    visits = λ i q. ap (λ (v : List ℕ). get_or v i 0) list ∙ filled_at (read_x s n) l w.visited i q (omega (arith, within, g.room));
+    untouched = λ i q. ap (λ (v : List ℕ). get_or v i 0) list ∙ filled_past (read_x s n) l w.visited i q;
     places = (later_run M b (begin s l)).as_long;
   }
 

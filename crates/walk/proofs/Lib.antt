@@ -1,6 +1,7 @@
 -- Laws of the walk that other crates may use.
 pub mod Runs
 pub mod Closed
+pub mod Standing
 pub mod Executed
 pub mod Outcomes
 pub mod Accepted

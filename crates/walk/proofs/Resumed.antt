@@ -18,8 +18,9 @@ use Rattle.walk.specs.Resumed.{passed_after, Stopped, grown, Resumes}
 use Rattle.walk.specs.Walk.{distance, instructions_of, plain_walk, walked, refusal_of, whole_of}
 use Rattle.walk.proofs.Accepted.{Within, accepted_when, accepted_within}
 use Rattle.walk.proofs.Answered.{whole_accepted}
-use Rattle.walk.proofs.Closed.{lanes_at, Stands, stands, stopped, rounds-le, filled, filled_joined}
-use Rattle.walk.proofs.Closed.Stands.{begins, enters, visits, adds, ends}
+use Rattle.walk.proofs.Closed.{lanes_at, rounds-le, filled}
+use Rattle.walk.proofs.Standing.{Stands, stands, stopped, filled_joined}
+use Rattle.walk.proofs.Standing.Stands.{begins, enters, visits, adds, ends}
 use Rattle.walk.proofs.Demands.{demand3, list_filled}
 use Rattle.walk.proofs.Kept.{plain_kept}
 use Rattle.walk.proofs.Lanes.{base, laws, lane_at, Ready, get_xn, get_xm, put_xn, put_pd, put_pk}
