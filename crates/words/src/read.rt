@@ -227,7 +227,7 @@ fn read_pnext(w: u32) -> Instruction
 fn is_pfirst(w: u32) -> bool
     ensures { result ≡ tests pfirst_form w }
 {
-    ((w >> 9) % (1 << 23) == 0x2558_c000 >> 9) & ((w >> 4) % 2 == 0b0)
+    ((w >> 9) % (1 << 23) == 0x2558C000 >> 9) & ((w >> 4) % 2 == 0b0)
 }
 
 fn read_pfirst(w: u32) -> Instruction
@@ -242,7 +242,7 @@ fn read_pfirst(w: u32) -> Instruction
 fn is_ptest(w: u32) -> bool
     ensures { result ≡ tests ptest_form w }
 {
-    ((w >> 14) % (1 << 18) == 0x2550_c000 >> 14)
+    ((w >> 14) % (1 << 18) == 0x2550C000 >> 14)
         & ((w >> 9) % 2 == 0b0)
         & ((w >> 0) % 32 == 0b00000)
 }
@@ -259,7 +259,7 @@ fn read_ptest(w: u32) -> Instruction
 fn is_pfalse(w: u32) -> bool
     ensures { result ≡ tests pfalse_form w }
 {
-    (w >> 4) % (1 << 28) == 0x2518_e400 >> 4
+    (w >> 4) % (1 << 28) == 0x2518E400 >> 4
 }
 
 fn read_pfalse(w: u32) -> Instruction
@@ -303,7 +303,7 @@ fn read_logic(w: u32) -> Instruction
 fn is_setffr(w: u32) -> bool
     ensures { result ≡ tests setffr_form w }
 {
-    w == 0x252_c9000
+    w == 0x252C9000
 }
 
 fn is_wrffr(w: u32) -> bool
@@ -323,7 +323,7 @@ fn read_wrffr(w: u32) -> Instruction
 fn is_rdffr(w: u32) -> bool
     ensures { result ≡ tests rdffr_form w }
 {
-    (w >> 4) % (1 << 28) == 0x2519_f000 >> 4
+    (w >> 4) % (1 << 28) == 0x2519F000 >> 4
 }
 
 fn read_rdffr(w: u32) -> Instruction
@@ -337,7 +337,7 @@ fn read_rdffr(w: u32) -> Instruction
 fn is_rdffr_pg(w: u32) -> bool
     ensures { result ≡ tests rdffr_pg_form w }
 {
-    ((w >> 9) % (1 << 23) == 0x2518_f000 >> 9) & ((w >> 4) % 2 == 0b0)
+    ((w >> 9) % (1 << 23) == 0x2518F000 >> 9) & ((w >> 4) % 2 == 0b0)
 }
 
 fn read_rdffr_pg(w: u32) -> Instruction
@@ -352,7 +352,7 @@ fn read_rdffr_pg(w: u32) -> Instruction
 fn is_rdffrs_pg(w: u32) -> bool
     ensures { result ≡ tests rdffrs_pg_form w }
 {
-    ((w >> 9) % (1 << 23) == 0x2558_f000 >> 9) & ((w >> 4) % 2 == 0b0)
+    ((w >> 9) % (1 << 23) == 0x2558F000 >> 9) & ((w >> 4) % 2 == 0b0)
 }
 
 fn read_rdffrs_pg(w: u32) -> Instruction

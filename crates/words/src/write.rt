@@ -48,7 +48,7 @@ const TABLE: [Places; FORMS] = [
     },
     // INCP and DECP
     Places {
-        fixed: 0x252_c8800,
+        fixed: 0x252C8800,
         low: [22, 16, 5, 0, 0, 0, 0, 0],
         width: [2, 1, 4, 5, 0, 0, 0, 0],
     },
@@ -72,19 +72,19 @@ const TABLE: [Places; FORMS] = [
     },
     // PFIRST
     Places {
-        fixed: 0x2558_c000,
+        fixed: 0x2558C000,
         low: [5, 0, 0, 0, 0, 0, 0, 0],
         width: [4, 4, 0, 0, 0, 0, 0, 0],
     },
     // PTEST
     Places {
-        fixed: 0x2550_c000,
+        fixed: 0x2550C000,
         low: [10, 5, 0, 0, 0, 0, 0, 0],
         width: [4, 4, 0, 0, 0, 0, 0, 0],
     },
     // PFALSE
     Places {
-        fixed: 0x2518_e400,
+        fixed: 0x2518E400,
         low: [0, 0, 0, 0, 0, 0, 0, 0],
         width: [4, 0, 0, 0, 0, 0, 0, 0],
     },
@@ -96,7 +96,7 @@ const TABLE: [Places; FORMS] = [
     },
     // SETFFR
     Places {
-        fixed: 0x252_c9000,
+        fixed: 0x252C9000,
         low: [0, 0, 0, 0, 0, 0, 0, 0],
         width: [0, 0, 0, 0, 0, 0, 0, 0],
     },
@@ -108,19 +108,19 @@ const TABLE: [Places; FORMS] = [
     },
     // RDFFR
     Places {
-        fixed: 0x2519_f000,
+        fixed: 0x2519F000,
         low: [0, 0, 0, 0, 0, 0, 0, 0],
         width: [4, 0, 0, 0, 0, 0, 0, 0],
     },
     // RDFFR under Pg
     Places {
-        fixed: 0x2518_f000,
+        fixed: 0x2518F000,
         low: [5, 0, 0, 0, 0, 0, 0, 0],
         width: [4, 4, 0, 0, 0, 0, 0, 0],
     },
     // RDFFRS under Pg
     Places {
-        fixed: 0x2558_f000,
+        fixed: 0x2558F000,
         low: [5, 0, 0, 0, 0, 0, 0, 0],
         width: [4, 4, 0, 0, 0, 0, 0, 0],
     },
