@@ -97,9 +97,9 @@ fn a_wrong_count_is_refused() {
             let mut state = right.clone();
             state.counts[number][size] = wrong;
             let given = state.clone();
-            assert_eq!((step(&mut state, 0x2518E400), step(&mut state, 0)), (4, 4));
+            assert_eq!((step(&mut state, 0x2518_e400), step(&mut state, 0)), (4, 4));
             assert_eq!(state, given);
-            for words in [&[][..], &[0x2518E400]] {
+            for words in [&[][..], &[0x2518_e400]] {
                 let ran = run(&state, words);
                 assert_eq!((ran.reply, ran.refused, ran.done, ran.state), (4, 0, 0, given.clone()));
             }

@@ -84,7 +84,7 @@ fn rdffrs_sets_flags() {
 /// "Level 1"; 14 comes "after 3"; "reply 4 covers its bits at or above PL".
 #[test]
 fn refusals_of_the_words_of_ffr() {
-    let words = [0x252c_9000, 0x2528_90e0, 0x2519F000, 0x2518F000, 0x2558F000]; // the second is WRFFR p7.b
+    let words = [0x252c_9000, 0x2528_90e0, 0x2519_f000, 0x2518_f000, 0x2558_f000]; // the second is WRFFR p7.b
     let mut state = ready();
     put(&mut state, 7, low(0b101));
     assert_eq!(words.map(|word| step(&mut state.clone(), word)), [0, 14, 0, 0, 0]);
