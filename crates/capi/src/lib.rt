@@ -174,7 +174,7 @@ pub extern "C" fn plokamyr_walk(
 pub extern "C" fn plokamyr_fold(title: &mut [u16], vl: u64) -> u32
     ensures value { result ≡ number_of (fold_reply vl (length title.old)) }
     ensures title_after { title.new ≡ fold_of vl (replicate longest 0) title.old }
-    ensures title_after_2 { result ≡ 0 → title.new ≡ map fold_unit title.old }
+    ensures table { result ≡ 0 → title.new ≡ map fold_unit title.old }
 {
     let folded = fold::fold(title, vl);
     folded.number() as u32
