@@ -13,7 +13,7 @@ const CALLS: [&str; 3] = ["plokamyr_run_parts", "plokamyr_walk", "plokamyr_read"
 
 fn main() {
     println!("cargo::rustc-check-cfg=cfg(before)");
-    let make = "Run `rt lib` in crates/scan of the repository, or set PLOKAMYR_LIB to the folder that has it.";
+    let make = "Run `rt lib --cpu x86-64` in crates/scan of the repository, or set PLOKAMYR_LIB to the folder that has it.";
     link("scan", &find(&folder("scan"), &["libscan.a"], make));
     if let Some(before) = named("PLOKAMYR_BEFORE") {
         let what = "PLOKAMYR_BEFORE is the folder of an earlier libcapi.a, or is not set.";

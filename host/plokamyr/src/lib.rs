@@ -16,9 +16,10 @@
 //! plokamyr::text_in(&buffer, &mut buffer);
 //! ```
 //!
-//! The library itself is an archive; `rt lib` in `crates/capi` makes it. `PLOKAMYR_LIB` names its folder if that is not
-//! `crates/capi/out` of the repository: one with `libcapi.a`, or with `libplokamyr.a`, as `./install PREFIX` fills
-//! `PREFIX/lib`. A relative path begins where cargo is called; it is looked up, and this crate compiled, at each build.
+//! The library itself is an archive; `rt lib --cpu x86-64` in `crates/capi` makes it. `PLOKAMYR_LIB` names its folder
+//! if that is not `crates/capi/out` of the repository: one with `libcapi.a`, or with `libplokamyr.a`, as `./install
+//! PREFIX` fills `PREFIX/lib`. A relative path begins where cargo is called; it is looked up, and this crate compiled,
+//! at each build.
 //!
 //! The crate and the archive have one layout of the structs that they share. With an archive of another layout no call
 //! links: the linker then names `plokamyr_layout_` and the number that is missing.

@@ -30,7 +30,7 @@ returns-then-not-is_legal c =
 pub returns-then-words-gt4096 : goal.returns-then-words-gt4096
 returns-then-words-gt4096 c =
     let a = c.args in
-    let r = answer-refused a.state a.words.now a.image.now R.NotAllowed _ (reply_many _ _ _ (is_lawful (goal.at.returns-then-words-gt4096 c).Else-not-is_legal) c.if-words-gt4096.true) (λ z. omega arith) c.refused-then-words-gt4096.ensures in
+    let r = answer-refused a.state a.words.now a.image.now R.NotAllowed _ (reply_many _ _ _ (is_lawful (goal.at.returns-then-words-gt4096 c).Else-not-is_legal) (omega (arith, c.if-words-gt4096.true))) (λ z. omega arith) c.refused-then-words-gt4096.ensures in
     record { value = r.0; image_after = r.1 }
 
 pub image_length-length-requires : goal.image_length-length-requires
@@ -41,7 +41,7 @@ returns-then-image-length c =
     let a = c.args in
     let p = goal.at.returns-then-image-length c in
     let n = long p.After-image_length-length (ok p.Start) in
-    let r = answer-refused a.state a.words.now a.image.now R.BufferTooSmall _ (reply_small _ _ _ (is_lawful p.Else-not-is_legal) c.if-words-gt4096.false (omega arith)) (λ z. omega arith) c.refused-then-image-length.ensures in
+    let r = answer-refused a.state a.words.now a.image.now R.BufferTooSmall _ (reply_small _ _ _ (is_lawful p.Else-not-is_legal) (omega (arith, c.if-words-gt4096.false)) (omega arith)) (λ z. omega arith) c.refused-then-image-length.ensures in
     record { value = r.0; image_after = r.1 }
 
 pub put_image-requires : goal.put_image-requires
@@ -54,5 +54,5 @@ pub returns : goal.returns
 returns c =
     let a = c.args in
     let p = goal.at.returns c in
-    let r = answer_done a.state a.words.now a.image.now _ _ (is_lawful p.Else-not-is_legal) c.if-words-gt4096.false c.if-image-length.false (long p.After-image_length-length (ok p.Start)) c.put_image.ensures in
+    let r = answer_done a.state a.words.now a.image.now _ _ (is_lawful p.Else-not-is_legal) (omega (arith, c.if-words-gt4096.false)) c.if-image-length.false (long p.After-image_length-length (ok p.Start)) c.put_image.ensures in
     record { value = r.0; image_after = r.1 }
