@@ -242,9 +242,7 @@ fn read_pfirst(w: u32) -> Instruction
 fn is_ptest(w: u32) -> bool
     ensures { result ≡ tests ptest_form w }
 {
-    ((w >> 14) % (1 << 18) == 0x2550C000 >> 14)
-        & ((w >> 9) % 2 == 0b0)
-        & ((w >> 0) % 32 == 0b00000)
+    ((w >> 14) % (1 << 18) == 0x2550C000 >> 14) & ((w >> 9) % 2 == 0b0) & ((w >> 0) % 32 == 0b00000)
 }
 
 fn read_ptest(w: u32) -> Instruction
