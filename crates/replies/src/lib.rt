@@ -1,64 +1,51 @@
-// The replies: what a request is answered with, and the number of each, 0 to 15. 0 is done; every other refuses the request, and all but 12 then leave
+// The replies: what a request is answered with. Nothing refused is `Ok`, of number 0; a refusal has a number of its own, 1 to 15, and all but 12 leave
 // the state and lent memory as they were.
 #![tactic(auto)]
 
 ghost use Rattle.std.specs.Prelude.{◌≡◌};
-ghost use Rattle.replies.specs.Reply.{number_of, is_done};
+ghost use Rattle.replies.specs.Reply.{number_of, refusal_number};
 
-// What a request is answered with.
-#[derive(Clone, Copy)]
-pub enum Reply {
-    Done,
+// Why a request is refused, by the paper's numbers.
+#[derive(Clone, Copy, Debug, PartialEq, Eq)]
+pub enum Refusal {
     // The word's bits 31:24 are not 00100101.
-    ForeignWord,
-    LevelTooLow,
-    AccessOff,
-    IllegalState,
-    ImageCut,
-    NotAllowed,
-    TrailingBytes,
-    BufferTooSmall,
-    FieldPastRange,
-    BadWalkRegisters,
-    ListTooShort,
-    BudgetSpent,
+    ForeignWord = 1,
+    LevelTooLow = 2,
+    AccessOff = 3,
+    IllegalState = 4,
+    ImageCut = 5,
+    NotAllowed = 6,
+    TrailingBytes = 7,
+    BufferTooSmall = 8,
+    FieldPastRange = 9,
+    BadWalkRegisters = 10,
+    ListTooShort = 11,
+    BudgetSpent = 12,
     // The word's bits 31:24 are 00100101, but its form is none of ours.
-    UnsupportedForm,
+    UnsupportedForm = 13,
     // WRFFR's operand is not a run of ones from bit 0.
-    NotMonotonic,
+    NotMonotonic = 14,
     // Of two kernels on one register file: the word or walk names a register that is not its own kernel's, or touches FFR.
-    NotOwned,
+    NotOwned = 15,
 }
 
-impl Reply {
-    // The paper's number of a reply.
+impl Refusal {
     pub fn number(self) -> u8
-        ensures { result ≡ number_of self }
+        ensures { result ≡ refusal_number self }
     {
-        match self {
-            Reply::Done => 0,
-            Reply::ForeignWord => 1,
-            Reply::LevelTooLow => 2,
-            Reply::AccessOff => 3,
-            Reply::IllegalState => 4,
-            Reply::ImageCut => 5,
-            Reply::NotAllowed => 6,
-            Reply::TrailingBytes => 7,
-            Reply::BufferTooSmall => 8,
-            Reply::FieldPastRange => 9,
-            Reply::BadWalkRegisters => 10,
-            Reply::ListTooShort => 11,
-            Reply::BudgetSpent => 12,
-            Reply::UnsupportedForm => 13,
-            Reply::NotMonotonic => 14,
-            Reply::NotOwned => 15,
-        }
+        self as u8
     }
+}
 
-    // Whether nothing was refused.
-    pub fn is_done(self) -> bool
-        ensures { result ≡ is_done self }
-    {
-        self.number() == 0
+// What a request is answered with.
+pub type Reply = Result<(), Refusal>;
+
+// The number of a reply; 0 refuses nothing.
+pub fn number(reply: Reply) -> u8
+    ensures { result ≡ number_of reply }
+{
+    match reply {
+        Ok(()) => 0,
+        Err(refusal) => refusal.number(),
     }
 }
