@@ -1,11 +1,11 @@
 -- A step and a walk of one of two kernels, as C has them. Assumes nothing.
+use Rattle.replies.specs.Reply.{number_of}
+use Rattle.std.specs.Prelude.{Ok}
 use mathlib.Core.Bool.{Bool}
 use mathlib.Core.List.{List}
 use mathlib.Core.Path.{◌≡◌, ap, ◌∙◌, subst}
 use Prim.Native.Nat.{ℕ}
 use lib.ListN.{length}
-use Rattle.replies.specs.declared.Reply.TheVariants.{Done}
-use Rattle.replies.specs.Reply.{number_of}
 use Rattle.words.specs.Words.{size_of}
 use Rattle.walk.specs.Demand.{Demand3}
 use Rattle.shared.specs.declared.Kernel.{Kernel}
@@ -28,7 +28,7 @@ module _ (size n m d k budget : ℕ) (s : Shared) (second : Bool) (l : List ℕ)
   abbrev pub Ensured : Kernel → List ℕ → SharedWalked → Type 0
   Ensured who after r =
       (r ≡ shared_walked_as (walk_of who size n m d k budget s l)) ×
-      ((after ≡ list_of who size n m d k budget s l) × (refusal_of who size n m d k s (length l) ≡ Done
+      ((after ≡ list_of who size n m d k budget s l) × (refusal_of who size n m d k s (length l) ≡ Ok tt
       → Demand3 (size_of size) n m d k budget (state_for who s) l after (walked_by who (walk_of who size n m d k budget s l))))
 
   pub walked : (after : List ℕ) (number : ℕ) (who : Kernel) (r : Walk.Walked) → who ≡ kernel_of second → Answers who size n m d k budget s l after r → number ≡ number_of r.reply

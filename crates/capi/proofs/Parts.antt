@@ -1,9 +1,8 @@
 -- The answers of a step and of a run, by their numbers. Assumes nothing.
+use Rattle.replies.specs.Reply.{Reply, number_of}
 use mathlib.Core.List.{List}
 use mathlib.Core.Path.{◌≡◌, ap, ◌∙◌}
 use Prim.Native.Nat.{ℕ}
-use Rattle.replies.specs.declared.Reply.{Reply}
-use Rattle.replies.specs.Reply.{number_of}
 use Rattle.registers.specs.declared.State.{State}
 use Rattle.machine.specs.declared.Ran as Machine
 use Rattle.machine.specs.declared.Stepped.{Stepped}

@@ -1,6 +1,6 @@
 -- The answers as C has them: each reply by its number, all else as it is.
-use Rattle.std.specs.Prelude.{ℕ, Bool, List, ◌≡◌}
 use Rattle.replies.specs.Reply.{number_of}
+use Rattle.std.specs.Prelude.{ℕ, Bool, List, ◌≡◌}
 use Rattle.registers.specs.declared.State.{State}
 use Rattle.registers.specs.Parts.{state_at}
 use Rattle.machine.specs.Step.{step_of, run_of}

@@ -1,4 +1,6 @@
 -- What `fold_in` and `fold` answer. Assumes nothing but what `walk` ensures.
+use Rattle.replies.specs.Reply.{Reply, number_of, is_done}
+use Rattle.std.specs.Prelude.{Ok}
 use mathlib.Core.Bool.{Bool, true, false, not}
 use mathlib.Core.List.{List, map}
 use mathlib.Core.Path.{◌≡◌, refl, sym, ap, ◌∙◌}
@@ -8,9 +10,6 @@ use lib.ListN.{length, take, replicate, length-replicate}
 use borrow.Author.Tests.{eqb-true}
 use Rattle.bits.specs.Choice.{pick}
 use Rattle.bits.proofs.Searches.{never}
-use Rattle.replies.specs.declared.Reply.{Reply}
-use Rattle.replies.specs.declared.Reply.TheVariants.{Done}
-use Rattle.replies.specs.Reply.{number_of, is_done}
 use Rattle.replies.proofs.Replies.{number_done}
 use Rattle.registers.specs.declared.State.{State}
 use Rattle.words.specs.Words.{size_of}
@@ -29,17 +28,17 @@ module _ (vl : ℕ) (t l after : List ℕ) (s : State) (r : Walked) where
   abbrev pub Walks : Type 0
   Walks =
       (r ≡ walk_of 1 0 1 0 1 budget s l) ×
-      ((after ≡ (whole_of 1 0 1 0 1 budget s l).list) × (refusal_of 1 0 1 0 1 s (length l) ≡ Done → Demand3 (size_of 1) 0 1 0 1 budget s l after r))
+      ((after ≡ (whole_of 1 0 1 0 1 budget s l).list) × (refusal_of 1 0 1 0 1 s (length l) ≡ Ok tt → Demand3 (size_of 1) 0 1 0 1 budget s l after r))
 
   -- what `fold_in` ensures, with the title at its end
   abbrev pub Answers : List ℕ → Type 0
   Answers last = (r ≡ title_answer vl (length t) l) × ((after ≡ title_list vl (length t) l) × (last ≡ fold_of vl l t))
 
   -- a walk whose reply is 0 was not refused
-  not-refused : Walks → is_done r.reply ≡ true → refusal_of 1 0 1 0 1 s (length l) ≡ Done
+  not-refused : Walks → is_done r.reply ≡ true → refusal_of 1 0 1 0 1 s (length l) ≡ Ok tt
   not-refused w h = by (is_done (refusal_of 1 0 1 0 1 s (length l))) refl
     where
-      by : (b : Bool) → is_done (refusal_of 1 0 1 0 1 s (length l)) ≡ b → refusal_of 1 0 1 0 1 s (length l) ≡ Done
+      by : (b : Bool) → is_done (refusal_of 1 0 1 0 1 s (length l)) ≡ b → refusal_of 1 0 1 0 1 s (length l) ≡ Ok tt
       by true e = number_done (refusal_of 1 0 1 0 1 s (length l)) (eqb-true (number_of (refusal_of 1 0 1 0 1 s (length l))) 0 e)
       by false e = never h (ap (λ (x : Walked). is_done x.reply) (w.0 ∙ answer-refused 1 0 1 0 1 budget s l e) ∙ e)
 
@@ -80,7 +79,7 @@ module _ (vl : ℕ) (t l after : List ℕ) (s : State) (r : Walked) where
 
 -- what `fold` ensures, with its reply and the title at its end
 abbrev pub FoldAnswers : ℕ → List ℕ → List ℕ → Reply → Type 0
-FoldAnswers vl t last r = (r ≡ fold_reply vl (length t)) × ((last ≡ fold_of vl (replicate longest 0) t) × (r ≡ Done → last ≡ map fold_unit t))
+FoldAnswers vl t last r = (r ≡ fold_reply vl (length t)) × ((last ≡ fold_of vl (replicate longest 0) t) × (r ≡ Ok tt → last ≡ map fold_unit t))
 
 -- with 4,096 places
 pub long_list : (vl : ℕ) (t last : List ℕ) (r : Walked) → r ≡ title_answer vl (length t) (replicate longest 0) → last ≡ fold_of vl (replicate longest 0) t → FoldAnswers vl t last r.reply

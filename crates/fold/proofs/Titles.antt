@@ -1,4 +1,6 @@
 -- Titles folded by the walk: what is answered, and what a title becomes. Assumes nothing.
+use Rattle.replies.specs.Reply.{Reply, is_done}
+use Rattle.std.specs.Prelude.{Ok, Err}
 use mathlib.Core.Bool.{Bool, true, false, not, ◌&&◌}
 use mathlib.Core.List.{List, [], ◌∷◌, map}
 use mathlib.Core.Path.{◌≡◌, refl, sym, ap, ap₂, subst, ◌∙◌}
@@ -14,9 +16,7 @@ use Rattle.bits.specs.Choice.{pick}
 use Rattle.predicates.specs.Predicate.{all_false, elements, predicate_length, has_bit_from}
 use Rattle.predicates.proofs.Lengths.{elements_exact}
 use Rattle.predicates.proofs.Spans.{false-within}
-use Rattle.replies.specs.declared.Reply.{Reply}
-use Rattle.replies.specs.declared.Reply.TheVariants.{Done, IllegalState, ListTooShort}
-use Rattle.replies.specs.Reply.{is_done}
+use Rattle.replies.specs.declared.Refusal.TheVariants.{IllegalState, ListTooShort}
 use Rattle.registers.specs.declared.State.{State}
 use Rattle.registers.specs.Legal.{is_length, legal}
 use Rattle.registers.specs.State.{read_x}
@@ -116,16 +116,16 @@ module _ (vl units : ℕ) (l : List ℕ) where
   refused_by r not_done e = ap (λ (w : Walked). w.reply) (answer-refused 1 0 1 0 1 budget s l (ap is_done e ∙ not_done)) ∙ e
 
   -- 4 for a vector length that is not allowed
-  refused-length : is_length vl ≡ false → (title_answer vl units l).reply ≡ IllegalState
-  refused-length e = refused_by IllegalState refl (refused_4 1 0 1 0 1 s (length l) (title_legal vl units false e))
+  refused-length : is_length vl ≡ false → (title_answer vl units l).reply ≡ Err IllegalState
+  refused-length e = refused_by (Err IllegalState) refl (refused_4 1 0 1 0 1 s (length l) (title_legal vl units false e))
 
   module _ (e : is_length vl ≡ true) where
     -- 11 for more units than there are places
-    refused_long : length l < units → (title_answer vl units l).reply ≡ ListTooShort
-    refused_long h = refused_by ListTooShort refl (refused_11 1 0 1 0 1 s (length l) (title_legal vl units true e) registers (omega arith) refl (rw (sub-zero units) h))
+    refused_long : length l < units → (title_answer vl units l).reply ≡ Err ListTooShort
+    refused_long h = refused_by (Err ListTooShort) refl (refused_11 1 0 1 0 1 s (length l) (title_legal vl units true e) registers (omega arith) refl (rw (sub-zero units) h))
 
     module _ (fits : units ≤ length l) (few : units ≤ longest) where
-      accepted : refusal_of 1 0 1 0 1 s (length l) ≡ Done
+      accepted : refusal_of 1 0 1 0 1 s (length l) ≡ Ok tt
       accepted = (accepted_when 1 0 1 0 1 s (length l)).0 (record { legal_is = title_legal vl units true e; registers = registers; present = omega arith; on = refl; room = rw (sub-zero units) fits })
 
       demand : Demand3 (size_of 1) 0 1 0 1 budget s l (title_list vl units l) (title_answer vl units l)
@@ -135,7 +135,7 @@ module _ (vl units : ℕ) (l : List ℕ) where
           (demand3 (size_of 1) 0 1 0 1 s l (accepted_within 1 0 1 0 1 s l (typed vl units few) accepted) budget))
 
       -- 0 for all others: each unit is visited, and its position listed
-      all_visited : ((title_answer vl units l).reply ≡ Done) × ((title_answer vl units l).visited ≡ units) × ((i : ℕ) → i < units → get_or (title_list vl units l) i 0 ≡ i)
+      all_visited : ((title_answer vl units l).reply ≡ Ok tt) × ((title_answer vl units l).visited ≡ units) × ((i : ℕ) → i < units → get_or (title_list vl units l) i 0 ≡ i)
       all_visited =
           let done = demand.enough (enough vl units e few) in
           let all : (title_answer vl units l).visited ≡ units = done.visited ∙ sub-zero units in
@@ -155,7 +155,7 @@ pub record Folds (vl : ℕ) (l t : List ℕ) : Type 0 where
 
 -- `fold_reply` by its two tests: the length is allowed; the title is too long
 abbrev told : Bool → Bool → Reply
-told allowed long = pick (not allowed) IllegalState (pick long ListTooShort Done)
+told allowed long = pick (not allowed) (Err IllegalState) (pick long (Err ListTooShort) (Ok tt))
 
 module _ (vl : ℕ) (l t : List ℕ) where
   abbrev by_walk : Bool → List ℕ
@@ -168,7 +168,7 @@ module _ (vl : ℕ) (l t : List ℕ) where
     title = ap by_walk (ap is_done answered ∙ not_done) ∙ sym (ap (λ (b : Bool). pick b (map fold_unit t) t) (ap is_done is ∙ not_done));
   }
 
-  done : is_length vl ≡ true → length t ≤ length l → length t ≤ longest → fold_reply vl (length t) ≡ Done → Folds vl l t
+  done : is_length vl ≡ true → length t ≤ length l → length t ≤ longest → fold_reply vl (length t) ≡ Ok tt → Folds vl l t
   unfolding fold_of
   done e fits few is =
       let (answered, visited, positions) = all_visited vl (length t) l e fits few in
@@ -183,10 +183,10 @@ module _ (vl : ℕ) (l t : List ℕ) where
   folds room = by_length (is_length vl) refl
     where
       by_length : (b : Bool) → is_length vl ≡ b → Folds vl l t
-      by_length false e = refused IllegalState refl (refused-length vl (length t) l e) (ap (λ (b : Bool). told b (ltb longest (length t))) e)
+      by_length false e = refused (Err IllegalState) refl (refused-length vl (length t) l e) (ap (λ (b : Bool). told b (ltb longest (length t))) e)
       by_length true e =
           elim (dec_lt longest (length t)) [
-            | yes h ↦ refused ListTooShort refl (refused_long vl (length t) l e (room.not_for_more h)) (ap₂ told e (lt-ltb longest (length t) h))
+            | yes h ↦ refused (Err ListTooShort) refl (refused_long vl (length t) l e (room.not_for_more h)) (ap₂ told e (lt-ltb longest (length t) h))
             | no h ↦
                 let few : length t ≤ longest = omega arith in
                 done e (room.for_each few) few (ap₂ told e (le-ltb longest (length t) few))
@@ -207,7 +207,7 @@ pub lent_folds : (vl : ℕ) (t : List ℕ) → Folds vl places t
 lent_folds vl t = folds vl places t (lent (length t))
 
 -- an accepted title comes out as the table has it, unit by unit
-pub fold_table : (vl : ℕ) (t : List ℕ) → fold_reply vl (length t) ≡ Done → fold_of vl places t ≡ map fold_unit t
+pub fold_table : (vl : ℕ) (t : List ℕ) → fold_reply vl (length t) ≡ Ok tt → fold_of vl places t ≡ map fold_unit t
 fold_table vl t e = (lent_folds vl t).title ∙ ap (λ (r : Reply). pick (is_done r) (map fold_unit t) t) e
 
 -- any list with a place for each unit gives the reply and the title that 4,096 places give

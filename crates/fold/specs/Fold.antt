@@ -1,11 +1,11 @@
 -- A title folded by the walk: with H elements, from 0 to its length.
+use Rattle.replies.specs.Reply.{Reply, is_done}
+use Rattle.std.specs.Prelude.{Ok, Err}
 use Rattle.std.specs.Prelude.{ℕ, zero, suc, true, not, List, ltb, length, get_or, set, replicate}
 use Rattle.bits.specs.Choice.{pick}
 use Rattle.predicates.specs.Predicate.{all_false}
 use Rattle.predicates.specs.PredTest.{flags_of}
-use Rattle.replies.specs.declared.Reply.{Reply}
-use Rattle.replies.specs.declared.Reply.TheVariants.{Done, IllegalState, ListTooShort}
-use Rattle.replies.specs.Reply.{is_done}
+use Rattle.replies.specs.declared.Refusal.TheVariants.{IllegalState, ListTooShort}
 use Rattle.registers.specs.declared.State.{State}
 use Rattle.registers.specs.Legal.{is_length}
 use Rattle.registers.specs.State.{made}
@@ -49,4 +49,4 @@ fold_of vl list t =
 
 -- a bad vector length is refused with 4, then a longer title with 11
 abbrev pub fold_reply : ℕ → ℕ → Reply
-fold_reply vl units = pick (not (is_length vl)) IllegalState (pick (ltb longest units) ListTooShort Done)
+fold_reply vl units = pick (not (is_length vl)) (Err IllegalState) (pick (ltb longest units) (Err ListTooShort) (Ok tt))

@@ -1,4 +1,5 @@
 -- The image of document 01's example and its old image, written, read and written again: the hypotheses of the round trips are met. Assumes nothing.
+use Rattle.std.specs.Prelude.{Ok, Err}
 use mathlib.Core.Bool.{Bool, true, false, ◌&&◌}
 use mathlib.Core.List.{List, [], ◌∷◌, ◌++◌}
 use mathlib.Core.Path.{◌≡◌, refl, ap, ◌∙◌}
@@ -12,7 +13,7 @@ use Rattle.bits.specs.Search.{some}
 use Rattle.bits.proofs.Searches.{never, some_no}
 use Rattle.predicates.specs.Predicate.{bit_at, pack, predicate_length, has_bit_from}
 use Rattle.predicates.proofs.Words.{pack-bit, pack_words}
-use Rattle.replies.specs.declared.Reply.TheVariants as R
+use Rattle.replies.specs.declared.Refusal.TheVariants as R
 use Rattle.registers.specs.declared.State.{State}
 use Rattle.registers.specs.Legal.{is_length, legal}
 use Rattle.registers.specs.State.{all_false, ffr, made, read_p}
@@ -95,7 +96,7 @@ pub bytes : AreBytes image
 unfolding all_below
 bytes = below_all 256 image (lit< tt) refl
 
-pub reply : image_reply 3 image ≡ R.Done
+pub reply : image_reply 3 image ≡ Ok tt
 unfolding image_reply sections setting sections_reply section_reply start_of or_else is_length some value
 reply = refl
 
@@ -107,7 +108,7 @@ pub old_bytes : AreBytes old
 unfolding all_below
 old_bytes = below_all 256 old (lit< tt) refl
 
-pub old_reply : image_reply 3 old ≡ R.Done
+pub old_reply : image_reply 3 old ≡ Ok tt
 unfolding image_reply sections setting sections_reply section_reply start_of or_else is_length some value
 old_reply = refl
 
@@ -117,7 +118,7 @@ is_old_lem = refl
 
 -- ---- the round trips
 
-pub read_back : read_of 3 image ≡ record { reply = R.Done; state = state; count = 3 }
+pub read_back : read_of 3 image ≡ record { reply = Ok tt; state = state; count = 3 }
 unfolding all_below
 read_back = rw image_bytes at (read-written state words held lawful (lit≤ tt) (below_all (2 ^ 32) words (lit< tt) refl) 3 (lit≤ tt))
 
@@ -144,11 +145,11 @@ old_read = read_old old is_old_lem
 abbrev odd : List ℕ
 odd = front ++ (2 ∷ 0 ∷ 0 ∷ 0 ∷ end)
 
-pub odd_refused : image_reply 3 odd ≡ R.NotAllowed
+pub odd_refused : image_reply 3 odd ≡ Err R.NotAllowed
 unfolding sections setting section_reply start_of is_length some value
 odd_refused = ffr-count 3 odd earlier (lit≤ tt) (λ e. omega arith) (λ e. omega arith)
   where
-    earlier : (j : ℕ) → j < 3 → section_reply (section_at (sections_of odd) j) (start_of (sections_of odd) j odd) ≡ R.Done
+    earlier : (j : ℕ) → j < 3 → section_reply (section_at (sections_of odd) j) (start_of (sections_of odd) j odd) ≡ Ok tt
     earlier zero l = refl
     earlier (suc zero) l = refl
     earlier (suc (suc zero)) l = refl

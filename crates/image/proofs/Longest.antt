@@ -1,4 +1,6 @@
 -- No image without a fault is longer than the largest image, and a longer input has the reply of its beginning. Assumes nothing.
+use Rattle.replies.specs.Reply.{Reply, is_done}
+use Rattle.std.specs.Prelude.{Ok, Err}
 use mathlib.Core.Bool.{Bool, true, false, not, ◌&&◌, ◌||◌}
 use mathlib.Core.List.{List, [], ◌∷◌}
 use mathlib.Core.Path.{◌≡◌, refl, sym, ap, ap₂, ◌∙◌}
@@ -13,9 +15,7 @@ use borrow.Author.Tests.{lt-ltb, le-ltb, ltb-false}
 use Rattle.bits.specs.Choice.{pick}
 use Rattle.bits.proofs.Searches.{some_cong}
 use Rattle.octets.specs.Bytes.{value}
-use Rattle.replies.specs.declared.Reply.{Reply}
-use Rattle.replies.specs.declared.Reply.TheVariants as R
-use Rattle.replies.specs.Reply.{is_done}
+use Rattle.replies.specs.declared.Refusal.TheVariants as R
 use Rattle.registers.proofs.Legality.{settings_has, quads}
 use Rattle.image.specs.Sections.{Section, setting, sections, section_at, count_of, content_of, is_missing, after, has_wrong, section_reply, or_else, sections_reply, bytes_of, largest_image}
 use Rattle.image.specs.Reading.{vl_of, sections_of, image_reply}
@@ -69,15 +69,15 @@ unfolding section_reply
 cut-section s rest m h =
     let n : ℕ = count_of rest in
     let wrong : Bool = ltb n s.lowest || ltb s.highest n in
-    let content : wrong ≡ false → pick (ltb (length (take m rest)) (4 + n * s.item)) R.ImageCut (pick (has_wrong s (content_of (take m rest)) (n * s.item)) R.NotAllowed R.Done)
-    ≡ pick (ltb (length rest) (4 + n * s.item)) R.ImageCut (pick (has_wrong s (content_of rest) (n * s.item)) R.NotAllowed R.Done) =
+    let content : wrong ≡ false → pick (ltb (length (take m rest)) (4 + n * s.item)) (Err R.ImageCut) (pick (has_wrong s (content_of (take m rest)) (n * s.item)) (Err R.NotAllowed) (Ok tt))
+    ≡ pick (ltb (length rest) (4 + n * s.item)) (Err R.ImageCut) (pick (has_wrong s (content_of rest) (n * s.item)) (Err R.NotAllowed) (Ok tt)) =
     λ e.
     let l : n * s.item ≤ s.highest * s.item = mul-le-mul_right s.item (ltb-false s.highest n (neither (ltb n s.lowest) (ltb s.highest n) e).1) in
-    ap₂ (λ (a b : Bool). pick a R.ImageCut (pick b R.NotAllowed R.Done)) (ap (λ (k : ℕ). ltb k (4 + n * s.item)) (length-take m rest) ∙ cut_below (length rest) m (4 + n * s.item) (omega arith))
+    ap₂ (λ (a b : Bool). pick a (Err R.ImageCut) (pick b (Err R.NotAllowed) (Ok tt))) (ap (λ (k : ℕ). ltb k (4 + n * s.item)) (length-take m rest) ∙ cut_below (length rest) m (4 + n * s.item) (omega arith))
     (some_cong (λ i. not (s.allowed i (get_or (content_of (take m rest)) i 0))) (λ i. not (s.allowed i (get_or (content_of rest) i 0))) (n * s.item) (λ i k. ap (λ (b : ℕ). not (s.allowed i b)) (byte_cut m rest i (omega arith)))) in
     rw (count_cut m rest (omega arith))
-    (ap₂ (λ (t : Bool) (f : Reply). pick t R.ImageCut f) (ap (λ (k : ℕ). ltb k 4) (length-take m rest) ∙ cut_below (length rest) m 4 (omega arith))
-    (unless (is_missing s rest) R.Done _ _ (λ _. unless wrong R.NotAllowed _ _ content)))
+    (ap₂ (λ (t : Bool) (f : Reply). pick t (Err R.ImageCut) f) (ap (λ (k : ℕ). ltb k 4) (length-take m rest) ∙ cut_below (length rest) m 4 (omega arith))
+    (unless (is_missing s rest) (Ok tt) _ _ (λ _. unless wrong (Err R.NotAllowed) _ _ content)))
 
 -- what follows a section that was cut is what follows it, cut
 after-cut : (s : Section) (rest : List ℕ) (m : ℕ) → 4 ≤ m → after s (take m rest) ≡ take (m - taken s rest) (after s rest)
@@ -87,7 +87,7 @@ after-cut s rest m h =
 
 -- ---- all sections
 
-if_done : (f a b : Reply) → (f ≡ R.Done → a ≡ b) → or_else f a ≡ or_else f b
+if_done : (f a b : Reply) → (f ≡ Ok tt → a ≡ b) → or_else f a ≡ or_else f b
 unfolding or_else
 if_done f a b h = go (is_done f) refl
   where
@@ -97,7 +97,7 @@ if_done f a b h = go (is_done f) refl
 
 -- given that the sections after it may be cut
 cut-first : (s : Section) (ss : List Section) (rest : List ℕ) (m : ℕ) → 4 + s.highest * s.item ≤ m
-    → ((past : List ℕ) → section_reply s rest ≡ R.Done → sections_reply ss (take (m - taken s rest) past) ≡ sections_reply ss past)
+    → ((past : List ℕ) → section_reply s rest ≡ Ok tt → sections_reply ss (take (m - taken s rest) past) ≡ sections_reply ss past)
     → sections_reply (s ∷ ss) (take m rest) ≡ sections_reply (s ∷ ss) rest
 unfolding sections_reply
 cut-first s ss rest m h later =
@@ -106,13 +106,13 @@ cut-first s ss rest m h later =
 
 cut-sections : (ss : List Section) (rest : List ℕ) (m : ℕ) → most ss < m → sections_reply ss (take m rest) ≡ sections_reply ss rest
 unfolding sections_reply bytes_of
-cut-sections [] rest m h = ap (λ (t : Bool). pick t R.TrailingBytes R.Done) (ap (ltb 0) (length-take m rest) ∙ cut-some (length rest) m (omega arith))
+cut-sections [] rest m h = ap (λ (t : Bool). pick t (Err R.TrailingBytes) (Ok tt)) (ap (ltb 0) (length-take m rest) ∙ cut-some (length rest) m (omega arith))
 cut-sections (s ∷ ss) rest m h =
     cut-first s ss rest m (omega arith) (λ past e. cut-sections ss past (m - taken s rest) (omega (arith, taken_most s rest e)))
 
-no_longer : (ss : List Section) (rest : List ℕ) → sections_reply ss rest ≡ R.Done → length rest ≤ most ss
+no_longer : (ss : List Section) (rest : List ℕ) → sections_reply ss rest ≡ Ok tt → length rest ≤ most ss
 unfolding sections_reply bytes_of
-no_longer [] rest e = ltb-false 0 (length rest) (not-refused (ltb 0 (length rest)) R.TrailingBytes R.Done (lit< tt) e).0
+no_longer [] rest e = ltb-false 0 (length rest) (not-refused (ltb 0 (length rest)) (Err R.TrailingBytes) (Ok tt) (lit< tt) e).0
 no_longer (s ∷ ss) rest e =
     let a = both_done (section_reply s rest) (sections_reply ss (after s rest)) e in
     omega (arith, no_longer ss (after s rest) a.1, taken_most s rest a.0, ap length (after_taken s rest) ∙ length-drop (taken s rest) rest)
@@ -120,7 +120,7 @@ no_longer (s ∷ ss) rest e =
 -- ---- an image
 
 -- settings without a fault name a vector length
-named : (image : List ℕ) → section_reply (section_at (sections_of image) 0) image ≡ R.Done → vl_of image ≤ 2048
+named : (image : List ℕ) → section_reply (section_at (sections_of image) 0) image ≡ Ok tt → vl_of image ≤ 2048
 unfolding sections setting
 named image e =
     let w = whole (section_at (sections_of image) 0) image refl e in
@@ -135,7 +135,7 @@ sections-cut n h image =
     (λ past e. cut-sections (drop 1 (sections_of image)) past (n - taken (section_at (sections_of image) 0) image) (omega (arith, named image e, taken_most (section_at (sections_of image) 0) image e)))
 
 -- An image without a fault has at most as many bytes as the largest.
-pub longest-read : (image : List ℕ) → sections_reply (sections_of image) image ≡ R.Done → length image ≤ largest_image
+pub longest-read : (image : List ℕ) → sections_reply (sections_of image) image ≡ Ok tt → length image ≤ largest_image
 unfolding sections sections_reply bytes_of
 longest-read image e = omega (arith, largest_is, no_longer (sections_of image) image e, named image (both_done (section_reply (section_at (sections_of image) 0) image) _ e).0)
 

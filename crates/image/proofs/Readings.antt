@@ -1,4 +1,6 @@
 -- What a reading answers, and what an image has that is read without a fault. Assumes nothing.
+use Rattle.replies.specs.Reply.{Reply, is_done}
+use Rattle.std.specs.Prelude.{Ok, Err}
 use mathlib.Core.Bool.{Bool, true, false, not}
 use mathlib.Core.List.{List, [], ◌∷◌, ◌++◌}
 use mathlib.Core.Path.{◌≡◌, refl, sym, ap, ap₂, ◌∙◌, subst}
@@ -13,9 +15,7 @@ use Rattle.octets.specs.Bytes.{value, parts}
 use Rattle.octets.proofs.Bytes.{sets_over, length-parts}
 use Rattle.predicates.specs.declared.Flags.{Flags}
 use Rattle.predicates.specs.declared.Predicate.{Predicate}
-use Rattle.replies.specs.declared.Reply.{Reply}
-use Rattle.replies.specs.declared.Reply.TheVariants as R
-use Rattle.replies.specs.Reply.{is_done}
+use Rattle.replies.specs.declared.Refusal.TheVariants as R
 use Rattle.registers.specs.declared.State.{State}
 use Rattle.registers.specs.State.{all_false, ffr, made, read_p}
 use Rattle.image.specs.declared.Reading.{Reading}
@@ -30,16 +30,16 @@ unfolding start_of
 start_shift s ss zero rest = refl
 start_shift s ss (suc i) rest = ap (after (section_at ss i)) (start_shift s ss i rest)
 
-pub wholes : (ss : List Section) (rest : List ℕ) → sections_reply ss rest ≡ R.Done → (i : ℕ) → i < length ss → is_missing (section_at ss i) (start_of ss i rest) ≡ false
+pub wholes : (ss : List Section) (rest : List ℕ) → sections_reply ss rest ≡ Ok tt → (i : ℕ) → i < length ss → is_missing (section_at ss i) (start_of ss i rest) ≡ false
     → Whole (section_at ss i) (start_of ss i rest)
 unfolding sections_reply start_of
 wholes [] rest e i l m = absurd (omega arith)
 wholes (s ∷ ss) rest e zero l m = whole s rest m (both_done (section_reply s rest) _ e).0
 wholes (s ∷ ss) rest e (suc i) l m = rw start_shift (wholes ss (after s rest) (both_done (section_reply s rest) _ e).1 i (omega arith) (rw start_shift at m))
 
-pub none_left : (ss : List Section) (rest : List ℕ) → sections_reply ss rest ≡ R.Done → length (start_of ss (length ss) rest) ≤ 0
+pub none_left : (ss : List Section) (rest : List ℕ) → sections_reply ss rest ≡ Ok tt → length (start_of ss (length ss) rest) ≤ 0
 unfolding sections_reply start_of
-none_left [] rest e = ltb-false 0 (length rest) (not-refused (ltb 0 (length rest)) R.TrailingBytes R.Done (lit< tt) e).0
+none_left [] rest e = ltb-false 0 (length rest) (not-refused (ltb 0 (length rest)) (Err R.TrailingBytes) (Ok tt) (lit< tt) e).0
 none_left (s ∷ ss) rest e = rw start_shift (none_left ss (after s rest) (both_done (section_reply s rest) _ e).1)
 
 pub record Sound (room : ℕ) (image : List ℕ) : Type 0 where
@@ -48,11 +48,11 @@ pub record Sound (room : ℕ) (image : List ℕ) : Type 0 where
   pub few : count_of (words_at image) ≤ 4096
   pub fits : count_of (words_at image) ≤ room
 
-pub sound : (room : ℕ) (image : List ℕ) → image_reply room image ≡ R.Done → Sound room image
+pub sound : (room : ℕ) (image : List ℕ) → image_reply room image ≡ Ok tt → Sound room image
 unfolding image_reply sections
 sound room image e =
     let a = both_done (sections_reply (sections_of image) image) _ e in
-    let b = not-refused (ltb room (count_of (words_at image))) R.BufferTooSmall R.Done (lit< tt) a.1 in
+    let b = not-refused (ltb room (count_of (words_at image))) (Err R.BufferTooSmall) (Ok tt) (lit< tt) a.1 in
     record {
       each = wholes (sections_of image) image a.0;
       ends = none_left (sections_of image) image a.0;
@@ -60,12 +60,12 @@ sound room image e =
       fits = ltb-false _ _ b.0;
     }
 
-pub done_with_room : (room : ℕ) (image : List ℕ) → sections_reply (sections_of image) image ≡ R.Done → count_of (words_at image) ≤ room → image_reply room image ≡ R.Done
+pub done_with_room : (room : ℕ) (image : List ℕ) → sections_reply (sections_of image) image ≡ Ok tt → count_of (words_at image) ≤ room → image_reply room image ≡ Ok tt
 unfolding image_reply
 done_with_room room image e h = next _ _ e ∙ rw (le-ltb _ _ h)
 
 -- the first section at fault answers
-pub first-at_fault : (ss : List Section) (i : ℕ) (rest : List ℕ) → i < length ss → ((j : ℕ) → j < i → section_reply (section_at ss j) (start_of ss j rest) ≡ R.Done)
+pub first-at_fault : (ss : List Section) (i : ℕ) (rest : List ℕ) → i < length ss → ((j : ℕ) → j < i → section_reply (section_at ss j) (start_of ss j rest) ≡ Ok tt)
     → (f : Reply) → f ≡ section_reply (section_at ss i) (start_of ss i rest) → is_done f ≡ false → sections_reply ss rest ≡ f
 unfolding sections_reply start_of or_else
 first-at_fault [] i rest l before f e d = absurd (omega arith)
@@ -82,13 +82,13 @@ module _ (room : ℕ) (image : List ℕ) (f : Reply) (t : Bool) (e : f ≡ secti
   reply_fault h = first_fault f _ _ t e d h
 
   module _ (rest : List ℕ) (n : ℕ) (er : rest ≡ words_at image) (en : n ≡ count_of rest) (h : not t ≡ false) where
-    pub reply_crowded : room < n → R.BufferTooSmall ≡ image_reply room image
+    pub reply_crowded : room < n → (Err R.BufferTooSmall) ≡ image_reply room image
     unfolding image_reply
-    reply_crowded l = rw (← er, ← en, lt-ltb _ _ l) (no_fault f _ R.BufferTooSmall t e d h)
+    reply_crowded l = rw (← er, ← en, lt-ltb _ _ l) (no_fault f _ (Err R.BufferTooSmall) t e d h)
 
-    pub reply_done : n ≤ room → R.Done ≡ image_reply room image
+    pub reply_done : n ≤ room → (Ok tt) ≡ image_reply room image
     unfolding image_reply
-    reply_done l = rw (← er, ← en, le-ltb _ _ l) (no_fault f _ R.Done t e d h)
+    reply_done l = rw (← er, ← en, le-ltb _ _ l) (no_fault f _ (Ok tt) t e d h)
 
 -- ---- the state
 
@@ -139,11 +139,11 @@ pub read_old : (image : List ℕ) → is_old image ≡ true → read_p (state_of
 read_old image e = read-ffr image ∙ old_ffr image e
 
 -- A count at FFR's place other than 1, FFR's, and 4, that of an old image's flags, is not allowed.
-pub ffr-count : (room : ℕ) (image : List ℕ) → ((j : ℕ) → j < 3 → section_reply (section_at (sections_of image) j) (start_of (sections_of image) j image) ≡ R.Done)
-    → 4 ≤ length (ffr_at image) → (count_of (ffr_at image) ≡ 1 → ⊥) → (count_of (ffr_at image) ≡ 4 → ⊥) → image_reply room image ≡ R.NotAllowed
+pub ffr-count : (room : ℕ) (image : List ℕ) → ((j : ℕ) → j < 3 → section_reply (section_at (sections_of image) j) (start_of (sections_of image) j image) ≡ Ok tt)
+    → 4 ≤ length (ffr_at image) → (count_of (ffr_at image) ≡ 1 → ⊥) → (count_of (ffr_at image) ≡ 4 → ⊥) → image_reply room image ≡ Err R.NotAllowed
 unfolding image_reply sections or_else
 ffr-count room image before h a b =
-    rw (first-at_fault (sections_of image) 3 image (lit< tt) before R.NotAllowed fault refl)
+    rw (first-at_fault (sections_of image) 3 image (lit< tt) before (Err R.NotAllowed) fault refl)
   where
     rest : List ℕ
     rest = ffr_at image
@@ -154,7 +154,7 @@ ffr-count room image before h a b =
     there : false ≡ is_missing s rest
     there = sym (ne_eqb (count_of rest) 4 b)
 
-    fault : R.NotAllowed ≡ section_reply s rest
+    fault : (Err R.NotAllowed) ≡ section_reply s rest
     fault =
         elim (dec_lt (count_of rest) 1) [
           | yes l ↦ fault_low s rest (shape_of s) (count_of rest) false there refl refl refl h l

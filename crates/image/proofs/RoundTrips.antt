@@ -1,4 +1,5 @@
 -- Reading what was written gives that state and those words; writing what was read gives the same bytes, and of an old image the new one; a state that was read is legal. Assumes nothing.
+use Rattle.std.specs.Prelude.{Ok}
 use mathlib.Core.Bool.{Bool, true, false, ◌&&◌}
 use mathlib.Core.List.{List, [], ◌∷◌, ◌++◌, append_assoc, append-nil}
 use mathlib.Core.Path.{◌≡◌, refl, sym, ap, ap₂, ◌∙◌, subst}
@@ -20,7 +21,7 @@ use Rattle.octets.proofs.Bytes.{bytes_take, bytes_drop, length-le, value-le, val
 use Rattle.predicates.specs.declared.Predicate.{Predicate}
 use Rattle.predicates.specs.Predicate.{pack, predicate_length, has_bit_from}
 use Rattle.predicates.proofs.Words.{pack_words}
-use Rattle.replies.specs.declared.Reply.TheVariants as R
+use Rattle.replies.specs.declared.Refusal.TheVariants as R
 use Rattle.registers.specs.declared.State.{State}
 use Rattle.registers.specs.Legal.{has_all_registers, is_length, settings_allowed, legal}
 use Rattle.registers.specs.State.{all_false, ffr, counted, read_p}
@@ -57,7 +58,7 @@ module _ {A : Type 0} (g : A → List ℕ) (items : List A) (rest : List ℕ) wh
       written_after = rw (written_present, written_count, ← drop-drop, written_content) (drop_at (joined g items) rest (length items * s.item) (length-joined g s.item len items))
 
       written-whole : s.lowest ≤ length items → length items ≤ s.highest → ((i : ℕ) → i < length items * s.item → s.allowed i (get_or (joined g items ++ rest) i 0) ≡ true)
-          → section_reply s (section g items ++ rest) ≡ R.Done
+          → section_reply s (section g items ++ rest) ≡ Ok tt
       written-whole low high right =
           unfaulted s (section g items ++ rest) (record {
             present = written_present;
@@ -177,7 +178,7 @@ module _ (s : State) (ws : List ℕ) (held : Held s) (ok : legal s ≡ true) (fe
   flags_right (suc (suc (suc zero))) l = le-leb (digit s.flags.v % 256) 1 (omega (arith, digit_small s.flags.v))
   flags_right (suc (suc (suc (suc i)))) l = absurd (omega arith)
 
-  sections-written : sections_reply ss image ≡ R.Done
+  sections-written : sections_reply ss image ≡ Ok tt
   unfolding sections_reply sections start_of
   sections-written =
       next _ _ (written-whole (le 1) (setting_items s) r1 (lit< tt) (section_at ss 0) (length-le 1) refl (lit≤ tt) (lit≤ tt) settings_right)
@@ -196,7 +197,7 @@ module _ (s : State) (ws : List ℕ) (held : Held s) (ok : legal s ≡ true) (fe
   count_back : count_of (words_at image) ≡ length ws
   count_back = rw (vl-read, at_words) (written_count (le 4) ws [] many_words)
 
-  pub reply_written : (room : ℕ) → length ws ≤ room → image_reply room (image_of s ws) ≡ R.Done
+  pub reply_written : (room : ℕ) → length ws ≤ room → image_reply room (image_of s ws) ≡ Ok tt
   reply_written room fit =
       rw image_is (done_with_room room image (ap (λ (v : ℕ). sections_reply (sections v) image) vl-read ∙ sections-written) (rw count_back fit))
 
@@ -253,7 +254,7 @@ module _ (s : State) (ws : List ℕ) (held : Held s) (ok : legal s ≡ true) (fe
       (parts-joined value 4 (le 4) 0 ws [] (λ i. length-le 4 (get_or ws i 0)) (λ i l. value-le 4 (get_or ws i 0) (words i)))
 
   -- Reading what was written gives that state and the number of those words ..
-  pub read-written : (room : ℕ) → length ws ≤ room → read_of room (image_of s ws) ≡ record { reply = R.Done; state = s; count = length ws }
+  pub read-written : (room : ℕ) → length ws ≤ room → read_of room (image_of s ws) ≡ record { reply = Ok tt; state = s; count = length ws }
   unfolding read_of
   read-written room fit = rw (reply_written room fit, state_back, image_is, count_back)
 
@@ -266,7 +267,7 @@ module _ (s : State) (ws : List ℕ) (held : Held s) (ok : legal s ≡ true) (fe
 
 -- A legal state with at most 4,096 words is written whenever the buffer has room.
 pub always-written : (s : State) (ws buffer : List ℕ) → legal s ≡ true → length ws ≤ 4096 → length (image_of s ws) ≤ length buffer
-    → (written_of s ws (length buffer) ≡ record { reply = R.Done; length = length (image_of s ws) }) × (buffer_after s ws buffer ≡ over (image_of s ws) buffer)
+    → (written_of s ws (length buffer) ≡ record { reply = Ok tt; length = length (image_of s ws) }) × (buffer_after s ws buffer ≡ over (image_of s ws) buffer)
 unfolding written_of buffer_after
 always-written s ws buffer h few fit = let e = reply_done s ws (length buffer) h few fit in (rw (← e), rw (← e))
 
@@ -333,7 +334,7 @@ put_in a b c f rest n l e h =
 pub renewed-new : (image : List ℕ) → is_old image ≡ false → renewed image ≡ image
 renewed-new image e = rw e
 
-module _ (image : List ℕ) (room : ℕ) (bytes : AreBytes image) (done : image_reply room image ≡ R.Done) where
+module _ (image : List ℕ) (room : ℕ) (bytes : AreBytes image) (done : image_reply room image ≡ Ok tt) where
   ok : Sound room image
   ok = sound room image done
 
@@ -536,7 +537,7 @@ module _ (image : List ℕ) (room : ℕ) (bytes : AreBytes image) (done : image_
 
   -- Writing what was read gives the same bytes, renewed, in every buffer that has room for them.
   pub rewritten : (buffer : List ℕ) → length (renewed image) ≤ length buffer
-      → (written_of (state_of image) (words_of image) (length buffer) ≡ record { reply = R.Done; length = length (renewed image) })
+      → (written_of (state_of image) (words_of image) (length buffer) ≡ record { reply = Ok tt; length = length (renewed image) })
       × (buffer_after (state_of image) (words_of image) buffer ≡ over (renewed image) buffer)
   rewritten buffer h = rw written_read at (always-written (state_of image) (words_of image) buffer read-legal read_few (rw written_read h))
 

@@ -1,4 +1,6 @@
 -- Laws of sections: what the code finds of one by its number, which fault answers, and what a section without one has. Assumes nothing.
+use Rattle.replies.specs.Reply.{Reply, number_of, is_done}
+use Rattle.std.specs.Prelude.{Ok, Err}
 use mathlib.Core.Bool.{Bool, true, false, not, ◌&&◌, ◌||◌}
 use mathlib.Core.List.{List, [], ◌∷◌}
 use mathlib.Core.Path.{◌≡◌, refl, sym, ap, ap₂, ◌∙◌}
@@ -16,9 +18,7 @@ use Rattle.bits.specs.Choice.{pick}
 use Rattle.bits.specs.Search.{some}
 use Rattle.bits.proofs.Searches.{never, some_yes, some_no, some-none}
 use Rattle.octets.proofs.Bytes.{bytes_of, bytes_take, value-below}
-use Rattle.replies.specs.declared.Reply.{Reply}
-use Rattle.replies.specs.declared.Reply.TheVariants as R
-use Rattle.replies.specs.Reply.{number_of, is_done}
+use Rattle.replies.specs.declared.Refusal.TheVariants as R
 use Rattle.replies.proofs.Replies.{number_done}
 use Rattle.registers.specs.Legal.{settings_allowed}
 use Rattle.image.specs.declared.sections.Shape.{Shape}
@@ -173,34 +173,34 @@ pub no_fault : (f g b : Reply) (t : Bool) → f ≡ g → t ≡ is_done f → no
 unfolding or_else
 no_fault f g b t e d h = rw (← e, ← d, not-false t h)
 
-pub is_done_lem : (f : Reply) → is_done f ≡ true → f ≡ R.Done
+pub is_done_lem : (f : Reply) → is_done f ≡ true → f ≡ Ok tt
 is_done_lem f e = number_done f (eqb-true (number_of f) 0 e)
 
-pub next : (g b : Reply) → g ≡ R.Done → or_else g b ≡ b
+pub next : (g b : Reply) → g ≡ Ok tt → or_else g b ≡ b
 unfolding or_else
 next g b e = rw e
 
-pub both_done : (a b : Reply) → or_else a b ≡ R.Done → (a ≡ R.Done) × (b ≡ R.Done)
+pub both_done : (a b : Reply) → or_else a b ≡ Ok tt → (a ≡ Ok tt) × (b ≡ Ok tt)
 unfolding or_else
 both_done a b e = go (is_done a) refl e
   where
-    go : (t : Bool) → is_done a ≡ t → pick t b a ≡ R.Done → (a ≡ R.Done) × (b ≡ R.Done)
+    go : (t : Bool) → is_done a ≡ t → pick t b a ≡ Ok tt → (a ≡ Ok tt) × (b ≡ Ok tt)
     go true d h = (is_done_lem a d, h)
     go false d h = never (ap is_done h) d
 
 -- a choice that is done did not refuse
-pub not-refused : (t : Bool) (f k : Reply) → 0 < number_of f → pick t f k ≡ R.Done → (t ≡ false) × (k ≡ R.Done)
+pub not-refused : (t : Bool) (f k : Reply) → 0 < number_of f → pick t f k ≡ Ok tt → (t ≡ false) × (k ≡ Ok tt)
 not-refused true f k h e = absurd (let z = ap number_of e in omega arith)
 not-refused false f k h e = (refl, e)
 
 -- ---- one section, as the code tests it
 
 module _ (s : Section) (rest : List ℕ) where
-  pub fault_cut : length rest < 4 → R.ImageCut ≡ section_reply s rest
+  pub fault_cut : length rest < 4 → (Err R.ImageCut) ≡ section_reply s rest
   unfolding section_reply
   fault_cut h = rw (lt-ltb _ _ h)
 
-  pub fault_missing : (t : Bool) → t ≡ is_missing s rest → t ≡ true → 4 ≤ length rest → R.Done ≡ section_reply s rest
+  pub fault_missing : (t : Bool) → t ≡ is_missing s rest → t ≡ true → 4 ≤ length rest → (Ok tt) ≡ section_reply s rest
   unfolding section_reply
   fault_missing t et m h = rw (le-ltb _ _ h, ← et, m)
 
@@ -217,25 +217,25 @@ module _ (s : Section) (rest : List ℕ) where
     bytes : s.item ≡ shape.item
     bytes = sym (ap (λ (x : Shape). x.item) es)
 
-    pub fault_low : n < shape.lowest → R.NotAllowed ≡ section_reply s rest
+    pub fault_low : n < shape.lowest → (Err R.NotAllowed) ≡ section_reply s rest
     unfolding section_reply
     fault_low l = rw (there, ← en, low, le-ltb _ _ h, lt-ltb _ _ l)
 
-    pub fault_high : shape.lowest ≤ n → shape.highest < n → R.NotAllowed ≡ section_reply s rest
+    pub fault_high : shape.lowest ≤ n → shape.highest < n → (Err R.NotAllowed) ≡ section_reply s rest
     unfolding section_reply
     fault_high l g = rw (there, ← en, low, high, le-ltb _ _ h, le-ltb _ _ l, lt-ltb _ _ g)
 
     module _ (l : shape.lowest ≤ n) (g : n ≤ shape.highest) where
-      pub fault_short : length rest < 4 + n * shape.item → R.ImageCut ≡ section_reply s rest
+      pub fault_short : length rest < 4 + n * shape.item → (Err R.ImageCut) ≡ section_reply s rest
       unfolding section_reply
       fault_short k = rw (there, ← en, low, high, bytes, le-ltb _ _ h, le-ltb _ _ l, le-ltb _ _ g, lt-ltb _ _ k)
 
       module _ (content : List ℕ) (t : Bool) (k : 4 + n * shape.item ≤ length rest) (ec : content ≡ content_of rest) (et : t ≡ has_wrong s content (n * shape.item)) where
-        pub fault_wrong : t ≡ true → R.NotAllowed ≡ section_reply s rest
+        pub fault_wrong : t ≡ true → (Err R.NotAllowed) ≡ section_reply s rest
         unfolding section_reply
         fault_wrong w = rw (there, ← en, low, high, bytes, le-ltb _ _ h, le-ltb _ _ l, le-ltb _ _ g, le-ltb _ _ k, ← ec, ← et, w)
 
-        pub fault_none : t ≡ false → R.Done ≡ section_reply s rest
+        pub fault_none : t ≡ false → (Ok tt) ≡ section_reply s rest
         unfolding section_reply
         fault_none w = rw (there, ← en, low, high, bytes, le-ltb _ _ h, le-ltb _ _ l, le-ltb _ _ g, le-ltb _ _ k, ← ec, ← et, w)
 
@@ -251,13 +251,13 @@ pub neither : (a b : Bool) → (a || b) ≡ false → (a ≡ false) × (b ≡ fa
 neither false b e = (refl, e)
 neither true b e = never refl e
 
-pub whole : (s : Section) (rest : List ℕ) → is_missing s rest ≡ false → section_reply s rest ≡ R.Done → Whole s rest
+pub whole : (s : Section) (rest : List ℕ) → is_missing s rest ≡ false → section_reply s rest ≡ Ok tt → Whole s rest
 unfolding section_reply
 whole s rest m e =
-    let a = not-refused (ltb (length rest) 4) R.ImageCut _ (lit< tt) e in
-    let b = not-refused (ltb (count_of rest) s.lowest || ltb s.highest (count_of rest)) R.NotAllowed _ (lit< tt) (rw m at a.1) in
-    let c = not-refused (ltb (length rest) (4 + count_of rest * s.item)) R.ImageCut _ (lit< tt) b.1 in
-    let d = not-refused (has_wrong s (content_of rest) (count_of rest * s.item)) R.NotAllowed R.Done (lit< tt) c.1 in
+    let a = not-refused (ltb (length rest) 4) (Err R.ImageCut) _ (lit< tt) e in
+    let b = not-refused (ltb (count_of rest) s.lowest || ltb s.highest (count_of rest)) (Err R.NotAllowed) _ (lit< tt) (rw m at a.1) in
+    let c = not-refused (ltb (length rest) (4 + count_of rest * s.item)) (Err R.ImageCut) _ (lit< tt) b.1 in
+    let d = not-refused (has_wrong s (content_of rest) (count_of rest * s.item)) (Err R.NotAllowed) (Ok tt) (lit< tt) c.1 in
     let f = neither (ltb (count_of rest) s.lowest) (ltb s.highest (count_of rest)) b.0 in
     record {
       present = m;
@@ -267,14 +267,14 @@ whole s rest m e =
       right = λ i l. not-false _ (some-none _ _ d.0 i l);
     }
 
-pub unfaulted : (s : Section) (rest : List ℕ) → Whole s rest → section_reply s rest ≡ R.Done
+pub unfaulted : (s : Section) (rest : List ℕ) → Whole s rest → section_reply s rest ≡ Ok tt
 unfolding section_reply
 unfaulted s rest w =
     let h : 4 ≤ length rest = omega (arith, w.within) in
     rw (w.present, le-ltb _ _ h, le-ltb _ _ w.at_least, le-ltb _ _ w.at_most, le-ltb _ _ w.within, some_no (λ i. not (s.allowed i (get_or (content_of rest) i 0))) _ (λ i l. ap not (w.right i l)))
 
 -- a section without a fault, there or missing, has no more bytes than its highest count
-pub taken_most : (s : Section) (rest : List ℕ) → section_reply s rest ≡ R.Done → taken s rest ≤ 4 + s.highest * s.item
+pub taken_most : (s : Section) (rest : List ℕ) → section_reply s rest ≡ Ok tt → taken s rest ≤ 4 + s.highest * s.item
 taken_most s rest e = go (is_missing s rest) refl
   where
     go : (t : Bool) → is_missing s rest ≡ t → pick t 0 (4 + count_of rest * s.item) ≤ 4 + s.highest * s.item
@@ -321,10 +321,10 @@ module _ (vl : ℕ) (i : ℕ) (l : 6 ≤ i) (rest : List ℕ) where
   none_left (suc k) [] h = refl
   none_left (suc k) (s ∷ ss) h = none_left k ss (omega arith)
 
-  pub bytes_left : 0 < length rest → R.TrailingBytes ≡ sections_reply (drop i (sections vl)) rest
+  pub bytes_left : 0 < length rest → (Err R.TrailingBytes) ≡ sections_reply (drop i (sections vl)) rest
   unfolding sections_reply
   bytes_left h = rw (none_left i (sections vl) (rw sections_six l), lt-ltb _ _ h)
 
-  pub no_bytes_left : length rest ≤ 0 → R.Done ≡ sections_reply (drop i (sections vl)) rest
+  pub no_bytes_left : length rest ≤ 0 → (Ok tt) ≡ sections_reply (drop i (sections vl)) rest
   unfolding sections_reply
   no_bytes_left h = rw (none_left i (sections vl) (rw sections_six l), le-ltb _ _ h)

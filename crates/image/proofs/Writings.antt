@@ -1,4 +1,6 @@
 -- What a writing answers, and how long an image is. Assumes nothing.
+use Rattle.replies.specs.Reply.{Reply, number_of}
+use Rattle.std.specs.Prelude.{Ok, Err}
 use mathlib.Core.Bool.{Bool, true, false, not}
 use mathlib.Core.List.{List, [], ◌∷◌, ◌++◌}
 use mathlib.Core.Path.{◌≡◌, refl, sym, ap, ◌∙◌}
@@ -14,9 +16,7 @@ use Rattle.octets.specs.Bytes.{le, joined}
 use Rattle.octets.proofs.Bytes.{length-le, length-joined, put_turn, sets_append, sets_over}
 use Rattle.predicates.specs.declared.Flags.{Flags}
 use Rattle.predicates.specs.declared.Predicate.{Predicate}
-use Rattle.replies.specs.declared.Reply.{Reply}
-use Rattle.replies.specs.declared.Reply.TheVariants as R
-use Rattle.replies.specs.Reply.{number_of}
+use Rattle.replies.specs.declared.Refusal.TheVariants as R
 use Rattle.registers.specs.declared.State.{State}
 use Rattle.registers.specs.Legal.{legal, illegal}
 use Rattle.registers.specs.State.{all_false, ffr, read_p}
@@ -179,21 +179,21 @@ lawful s true e h = sym e
 lawful s false e h = never refl h
 
 module _ (s : State) (ws : List ℕ) (room : ℕ) where
-  pub reply_illegal : (t : Bool) → t ≡ legal s → not t ≡ true → R.IllegalState ≡ write_reply s ws room
+  pub reply_illegal : (t : Bool) → t ≡ legal s → not t ≡ true → (Err R.IllegalState) ≡ write_reply s ws room
   unfolding write_reply
-  reply_illegal t e h = chosen (illegal s) R.IllegalState _ (ap not (sym e) ∙ h)
+  reply_illegal t e h = chosen (illegal s) (Err R.IllegalState) _ (ap not (sym e) ∙ h)
 
-  pub reply_many : legal s ≡ true → 4096 < length ws → R.NotAllowed ≡ write_reply s ws room
+  pub reply_many : legal s ≡ true → 4096 < length ws → (Err R.NotAllowed) ≡ write_reply s ws room
   unfolding write_reply
-  reply_many h l = sym (skipped (illegal s) R.IllegalState _ h ∙ rw (lt-ltb _ _ l))
+  reply_many h l = sym (skipped (illegal s) (Err R.IllegalState) _ h ∙ rw (lt-ltb _ _ l))
 
-  pub reply_small : legal s ≡ true → length ws ≤ 4096 → room < length (image_of s ws) → R.BufferTooSmall ≡ write_reply s ws room
+  pub reply_small : legal s ≡ true → length ws ≤ 4096 → room < length (image_of s ws) → (Err R.BufferTooSmall) ≡ write_reply s ws room
   unfolding write_reply
-  reply_small h l r = sym (skipped (illegal s) R.IllegalState _ h ∙ rw (le-ltb _ _ l, lt-ltb _ _ r))
+  reply_small h l r = sym (skipped (illegal s) (Err R.IllegalState) _ h ∙ rw (le-ltb _ _ l, lt-ltb _ _ r))
 
-  pub reply_done : legal s ≡ true → length ws ≤ 4096 → length (image_of s ws) ≤ room → R.Done ≡ write_reply s ws room
+  pub reply_done : legal s ≡ true → length ws ≤ 4096 → length (image_of s ws) ≤ room → (Ok tt) ≡ write_reply s ws room
   unfolding write_reply
-  reply_done h l r = sym (skipped (illegal s) R.IllegalState _ h ∙ rw (le-ltb _ _ l, le-ltb _ _ r))
+  reply_done h l r = sym (skipped (illegal s) (Err R.IllegalState) _ h ∙ rw (le-ltb _ _ l, le-ltb _ _ r))
 
 -- ---- the answer and the buffer
 
@@ -204,8 +204,8 @@ module _ (s : State) (ws buffer : List ℕ) where
   answer-refused f w e h ew = (rw (← e, ne_eqb (number_of f) 0 h) ew, rw (← e, ne_eqb (number_of f) 0 h))
 
   pub answer_done : (after : List ℕ) (n : ℕ) → legal s ≡ true → length ws ≤ 4096 → n ≤ length buffer → n ≡ length (image_of s ws) → after ≡ sets buffer 0 (image_of s ws)
-      → (record { reply = R.Done; length = n } ≡ written_of s ws (length buffer)) × (after ≡ buffer_after s ws buffer)
+      → (record { reply = Ok tt; length = n } ≡ written_of s ws (length buffer)) × (after ≡ buffer_after s ws buffer)
   unfolding written_of buffer_after
   answer_done after n h few r en ea =
-      let e : R.Done ≡ write_reply s ws (length buffer) = reply_done s ws (length buffer) h few (omega arith) in
+      let e : (Ok tt) ≡ write_reply s ws (length buffer) = reply_done s ws (length buffer) h few (omega arith) in
       (rw (← e, en), rw (← e, ea) (sets_over buffer (image_of s ws) (omega arith)))

@@ -1,4 +1,6 @@
 -- What reading an image answers. `room` is the length of the lent list.
+use Rattle.replies.specs.Reply.{Reply, is_done}
+use Rattle.std.specs.Prelude.{Ok, Err}
 use Rattle.std.specs.Prelude.{ℕ, ◌*◌, ◌/◌, Bool, false, List, [], ◌∷◌, ◌++◌, ltb, eqb, length, take, drop, get_or, replicate}
 use Rattle.bits.specs.Bits.{test_bit}
 use Rattle.bits.specs.Choice.{pick}
@@ -6,9 +8,7 @@ use Rattle.octets.specs.Bytes.{value, parts, over}
 use Rattle.predicates.specs.declared.Flags.{Flags}
 use Rattle.predicates.specs.declared.Predicate.{Predicate}
 use Rattle.predicates.specs.Predicate.{pack}
-use Rattle.replies.specs.declared.Reply.{Reply}
-use Rattle.replies.specs.declared.Reply.TheVariants as R
-use Rattle.replies.specs.Reply.{is_done}
+use Rattle.replies.specs.declared.Refusal.TheVariants as R
 use Rattle.registers.specs.declared.State.{State}
 use Rattle.registers.specs.State.{all_false, ffr, register_count, made}
 use Rattle.image.specs.Image.{section, predicate_bytes}
@@ -47,7 +47,7 @@ is_old image = is_missing (section_at (sections_of image) 3) (ffr_at image)
 
 -- the sections' reply, and last a lent list shorter than the count of words 8
 unfoldable pub image_reply : ℕ → List ℕ → Reply
-image_reply room image = or_else (sections_reply (sections_of image) image) (pick (ltb room (count_of (words_at image))) R.BufferTooSmall R.Done)
+image_reply room image = or_else (sections_reply (sections_of image) image) (pick (ltb room (count_of (words_at image))) (Err R.BufferTooSmall) (Ok tt))
 
 -- ---- what an image without a fault holds
 
@@ -84,7 +84,7 @@ blank = made 128 0 false (record { n = false; z = false; c = false; v = false })
 
 unfoldable pub read_of : ℕ → List ℕ → Reading
 read_of room image =
-    pick (is_done (image_reply room image)) (record { reply = R.Done; state = state_of image; count = count_of (words_at image) })
+    pick (is_done (image_reply room image)) (record { reply = Ok tt; state = state_of image; count = count_of (words_at image) })
     (record { reply = image_reply room image; state = blank; count = 0 })
 
 -- the lent list after a reading: the words, and past them what stood there; after a refusal as it was

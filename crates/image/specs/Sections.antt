@@ -1,11 +1,11 @@
 -- The sections of an image as data, in document 01's order. `rest` is what of the bytes is left to read, from a section's start on.
+use Rattle.replies.specs.Reply.{Reply, is_done}
+use Rattle.std.specs.Prelude.{Ok, Err}
 use Rattle.std.specs.Prelude.{ℕ, zero, suc, ◌+◌, ◌*◌, ◌/◌, Bool, true, false, not, ◌&&◌, ◌||◌, List, [], ◌∷◌, ltb, leb, eqb, length, take, drop, get_or}
 use Rattle.bits.specs.Choice.{pick}
 use Rattle.bits.specs.Search.{some}
 use Rattle.octets.specs.Bytes.{value}
-use Rattle.replies.specs.declared.Reply.{Reply}
-use Rattle.replies.specs.declared.Reply.TheVariants as R
-use Rattle.replies.specs.Reply.{is_done}
+use Rattle.replies.specs.declared.Refusal.TheVariants as R
 use Rattle.registers.specs.Legal.{settings_allowed}
 use Rattle.image.specs.declared.sections.Shape.{Shape}
 
@@ -71,10 +71,10 @@ has_wrong s content n = some (λ i. not (s.allowed i (get_or content i 0))) n
 -- count cut 5; one that is missing has no fault; count wrong 6, content cut 5, content wrong 6
 unfoldable pub section_reply : Section → List ℕ → Reply
 section_reply s rest =
-    pick (ltb (length rest) 4) R.ImageCut
-    (pick (is_missing s rest) R.Done
-    (pick (ltb (count_of rest) s.lowest || ltb s.highest (count_of rest)) R.NotAllowed
-    (pick (ltb (length rest) (4 + count_of rest * s.item)) R.ImageCut (pick (has_wrong s (content_of rest) (count_of rest * s.item)) R.NotAllowed R.Done))))
+    pick (ltb (length rest) 4) (Err R.ImageCut)
+    (pick (is_missing s rest) (Ok tt)
+    (pick (ltb (count_of rest) s.lowest || ltb s.highest (count_of rest)) (Err R.NotAllowed)
+    (pick (ltb (length rest) (4 + count_of rest * s.item)) (Err R.ImageCut) (pick (has_wrong s (content_of rest) (count_of rest * s.item)) (Err R.NotAllowed) (Ok tt)))))
 
 -- ---- all sections, one after the other
 
@@ -84,7 +84,7 @@ or_else a b = pick (is_done a) b a
 
 -- the first section at fault answers; bytes after the last section 7
 unfoldable pub sections_reply : List Section → List ℕ → Reply
-sections_reply [] rest = pick (ltb 0 (length rest)) R.TrailingBytes R.Done
+sections_reply [] rest = pick (ltb 0 (length rest)) (Err R.TrailingBytes) (Ok tt)
 sections_reply (s ∷ ss) rest = or_else (section_reply s rest) (sections_reply ss (after s rest))
 
 -- what is left where section i begins

@@ -1,4 +1,5 @@
 -- The counts that are kept are those of the elements, after every word; INCP and its kin add what a count over the elements gives. Assumes nothing.
+use Rattle.std.specs.Prelude.{Ok}
 use mathlib.Core.Bool.{Bool, true}
 use mathlib.Core.List.{List}
 use mathlib.Core.Path.{◌≡◌, ap}
@@ -10,7 +11,6 @@ use Rattle.registers.specs.declared.State.{State}
 use Rattle.registers.specs.Legal.{legal}
 use Rattle.registers.specs.State.{counted, read_x, read_p, read_counts}
 use Rattle.registers.proofs.Legality.{legal-counted, kept_counts, kept_count}
-use Rattle.words.specs.declared.Decoded.TheVariants.{Ours}
 use Rattle.words.specs.declared.Instruction.TheVariants.{IncDec, Saturating}
 use Rattle.words.specs.Words.{decode_of}
 use Rattle.words.proofs.RoundTrip.{written_read}
@@ -48,8 +48,8 @@ module _ (s : State) (ok : legal s ≡ true) (d : Bool) (size : Size) (pm rdn : 
   saturating_counts u sf l = ap (saturating_of d u sf (read_x s rdn)) (kept_count s pm size ok l)
 
   -- every word that is read as one of them names one of P0 to P15
-  pub inc_dec_word : (w : ℕ) → w < 2 ^ 32 → decode_of w ≡ Ours (IncDec d size pm rdn) → pm < 16
+  pub inc_dec_word : (w : ℕ) → w < 2 ^ 32 → decode_of w ≡ Ok (IncDec d size pm rdn) → pm < 16
   inc_dec_word w l h = omega (arith, at (IncDec d size pm rdn) 2 (written_read w (IncDec d size pm rdn) l h).0 (omega arith))
 
-  pub saturating-word : (u sf : Bool) (w : ℕ) → w < 2 ^ 32 → decode_of w ≡ Ours (Saturating d u sf size pm rdn) → pm < 16
+  pub saturating-word : (u sf : Bool) (w : ℕ) → w < 2 ^ 32 → decode_of w ≡ Ok (Saturating d u sf size pm rdn) → pm < 16
   saturating-word u sf w l h = omega (arith, at (Saturating d u sf size pm rdn) 4 (written_read w (Saturating d u sf size pm rdn) l h).0 (omega arith))

@@ -1,4 +1,8 @@
 -- Document 01's fourteen examples and document 02's, at VL 128, computed from the definitions that the contracts of `step` and `decode` cite.
+use Rattle.std.specs.Prelude.{Result}
+use Rattle.std.specs.Prelude.{Ok, Err}
+use Rattle.replies.specs.declared.Refusal.{Refusal}
+use Rattle.replies.specs.Reply.{number_of}
 use mathlib.Core.Bool.{true, false}
 use mathlib.Core.List.{List, [], ◌∷◌, ◌++◌, map}
 use mathlib.Core.Path.{◌≡◌, refl}
@@ -14,11 +18,8 @@ use Rattle.tally.specs.declared.Counts.{Counts}
 use Rattle.tally.specs.Counts.{true_elements, counts_of, same_counts}
 use Rattle.registers.specs.declared.State.{State}
 use Rattle.registers.specs.Legal.{has_all_registers, is_length, has_stray_bit, has_wrong_count, illegal}
-use Rattle.replies.specs.Reply.{number_of}
 use Rattle.registers.specs.State.{all_counts, made, counted, read_x, read_p, read_counts, with_x, with_p, with_flags}
 use Rattle.scalars.specs.declared.Condition.TheVariants.{Less, LessEqual, GreaterEqual, Greater}
-use Rattle.words.specs.declared.Decoded.{Decoded}
-use Rattle.words.specs.declared.Decoded.TheVariants.{Ours, Refused}
 use Rattle.words.specs.declared.Instruction.{Instruction}
 use Rattle.words.specs.declared.Instruction.TheVariants.{While, Saturating, IncDec, CntpCounter, Pnext, Ptest, Pfalse, Setffr, Wrffr, Rdffr, RdffrPg, RdffrsPg}
 use Rattle.words.specs.declared.Target.TheVariants.{One, Pair, Counter}
@@ -57,9 +58,9 @@ gives : ℕ → ℕ → ℕ → ℕ → ℕ → List ℕ
 gives flags x p0 p1 p8 = 0 ∷ flags ∷ x ∷ p0 ∷ 0 ∷ 0 ∷ 0 ∷ p1 ∷ 0 ∷ 0 ∷ 0 ∷ p8 ∷ 0 ∷ 0 ∷ 0 ∷ []
 
 -- an instruction that a word was read as
-read : Decoded → List ℕ
-read (Ours i) = word_of i ∷ fields_of i
-read (Refused r) = []
+read : Result Instruction Refusal → List ℕ
+read (Ok i) = word_of i ∷ fields_of i
+read (Err r) = []
 
 -- an example of document 01 by its number there, or of a request of document 02 by the request's
 pub record Example : Type 0 where
@@ -132,9 +133,9 @@ examples =
     ∷ base 11 (after (start 0 0 0 0x0022) (Pnext Sz.S 1 0)) (gives 0b0110 0 0x0000 0x0022 0)
     ∷ base 12 (after (start 0xFFFFFFFF80000001 0 0 0x0007) (Saturating true false false Sz.B 1 1)) (gives 0b0000 0xFFFFFFFF80000000 0 0x0007 0)
     ∷ base 13 (after (start (2 ^ 64 - 1) 0 0 0x0003) (IncDec false Sz.B 1 1)) (gives 0b0000 1 0 0x0003 0)
-    ∷ base 14 (read (decode_of 0x25A24438)) (read (Ours (While LessEqual false (Counter false 0) Sz.S 1 2)))
-    ∷ base 14 (read (decode_of 0x25E55893)) (read (Ours (While Greater true (Pair 1) Sz.D 4 5)))
-    ∷ base 14 (read (decode_of 0x252A8C23)) (read (Ours (Saturating true false true Sz.B 1 3)))
+    ∷ base 14 (read (decode_of 0x25A24438)) (read (Ok (While LessEqual false (Counter false 0) Sz.S 1 2)))
+    ∷ base 14 (read (decode_of 0x25E55893)) (read (Ok (While Greater true (Pair 1) Sz.D 4 5)))
+    ∷ base 14 (read (decode_of 0x252A8C23)) (read (Ok (Saturating true false true Sz.B 1 3)))
     ∷ request 2 (after (with_p (start 9 0 0 0) 8 (pack (test_bit 0x0081))) (CntpCounter true Sz.B 8 1)) (gives 0b0000 0 0 0 0x0081)
     ∷ request 6 (counts 0x00F1 0x0111 (Ptest 0 1)) (5 ∷ 3 ∷ 2 ∷ 1 ∷ 3 ∷ 3 ∷ 3 ∷ 2 ∷ [])
     ∷ request 6 (counts 0x00F1 0x0111 (Pfalse 0)) (0 ∷ 0 ∷ 0 ∷ 0 ∷ 3 ∷ 3 ∷ 3 ∷ 2 ∷ [])

@@ -1,15 +1,14 @@
 -- FFR changes by SETFFR and WRFFR alone. Assumes nothing.
+use Rattle.replies.specs.Reply.{Reply, number_of}
+use Rattle.std.specs.Prelude.{Ok, Err}
 use mathlib.Core.Bool.{true}
 use mathlib.Core.Path.{◌≡◌, refl, sym, ap, ◌∙◌}
 use Prim.Native.Nat.{ℕ, ◌<◌, ◌^◌}
 use native.Mathlib.Omega.{arith}
 use lib.ListN.{length, get_or}
-use Rattle.replies.specs.Reply.{number_of}
-use Rattle.replies.specs.declared.Reply.{Reply}
-use Rattle.replies.specs.declared.Reply.TheVariants.{Done, ForeignWord, LevelTooLow, AccessOff, IllegalState, UnsupportedForm, NotMonotonic, BadWalkRegisters, BudgetSpent, BufferTooSmall, FieldPastRange, ImageCut, ListTooShort, NotAllowed, NotOwned, TrailingBytes}
+use Rattle.replies.specs.declared.Refusal.TheVariants.{ForeignWord, LevelTooLow, AccessOff, IllegalState, UnsupportedForm, NotMonotonic, BadWalkRegisters, BudgetSpent, BufferTooSmall, FieldPastRange, ImageCut, ListTooShort, NotAllowed, NotOwned, TrailingBytes}
 use Rattle.registers.specs.declared.State.{State}
 use Rattle.registers.specs.State.{ffr, read_p}
-use Rattle.words.specs.declared.Decoded.TheVariants.{Ours}
 use Rattle.words.specs.declared.Instruction.{Instruction}
 use Rattle.words.specs.declared.Instruction.TheVariants.{While, Saturating, IncDec, Cntp, CntpCounter, Pnext, Pfirst, Ptest, Pfalse, Logic, Setffr, Wrffr, Rdffr, RdffrPg, RdffrsPg}
 use Rattle.words.specs.declared.Target.TheVariants.{One, Pair, Counter}
@@ -53,28 +52,28 @@ not_named (RdffrPg pg pd) h a b = let l = at (RdffrPg pg pd) 1 h (omega arith) i
 not_named (RdffrsPg pg pd) h a b = let l = at (RdffrsPg pg pd) 1 h (omega arith) in (λ e. omega arith, λ e. omega arith)
 
 -- a word other than SETFFR's and WRFFR's leaves FFR alone, accepted or refused
-pub ffr_kept : (s : State) (w : ℕ) → w < 2 ^ 32 → (decode_of w ≡ Ours Setffr → ⊥) → ((pn : ℕ) → decode_of w ≡ Ours (Wrffr pn) → ⊥) → read_p (step_of s w).state ffr ≡ read_p s ffr
+pub ffr_kept : (s : State) (w : ℕ) → w < 2 ^ 32 → (decode_of w ≡ Ok Setffr → ⊥) → ((pn : ℕ) → decode_of w ≡ Ok (Wrffr pn) → ⊥) → read_p (step_of s w).state ffr ≡ read_p s ffr
 ffr_kept s w l a b = go (step_of s w).reply refl ((exactly_when s w (step_of s w).reply).0 refl)
   where
     as_it_was : (r : Reply) → (step_of s w).reply ≡ r → 0 < number_of r → read_p (step_of s w).state ffr ≡ read_p s ffr
     as_it_was r e h = ap (λ (t : State). read_p t ffr) (refused-step s w (λ z. omega (arith, ap number_of (sym e ∙ z))))
 
     go : (r : Reply) → (step_of s w).reply ≡ r → Given s w r → read_p (step_of s w).state ffr ≡ read_p s ffr
-    go IllegalState e (illegal h) = as_it_was IllegalState e (omega arith)
-    go ForeignWord e (foreign ok h) = as_it_was ForeignWord e (omega arith)
-    go UnsupportedForm e (unsupported ok h k) = as_it_was UnsupportedForm e (omega arith)
-    go LevelTooLow e (low i ok h k) = as_it_was LevelTooLow e (omega arith)
-    go AccessOff e (off i ok h k x) = as_it_was AccessOff e (omega arith)
-    go NotMonotonic e (broken pn ok h k x m) = as_it_was NotMonotonic e (omega arith)
-    go Done e (done i ok h k x m) =
-        let (p, q) = not_named i (written_read w i l h).0 (λ z. a (h ∙ ap Ours z)) (λ pn z. b pn (h ∙ ap Ours z)) in
+    go (Err IllegalState) e (illegal h) = as_it_was (Err IllegalState) e (omega arith)
+    go (Err ForeignWord) e (foreign ok h) = as_it_was (Err ForeignWord) e (omega arith)
+    go (Err UnsupportedForm) e (unsupported ok h k) = as_it_was (Err UnsupportedForm) e (omega arith)
+    go (Err LevelTooLow) e (low i ok h k) = as_it_was (Err LevelTooLow) e (omega arith)
+    go (Err AccessOff) e (off i ok h k x) = as_it_was (Err AccessOff) e (omega arith)
+    go (Err NotMonotonic) e (broken pn ok h k x m) = as_it_was (Err NotMonotonic) e (omega arith)
+    go (Ok tt) e (done i ok h k x m) =
+        let (p, q) = not_named i (written_read w i l h).0 (λ z. a (h ∙ ap Ok z)) (λ pn z. b pn (h ∙ ap Ok z)) in
         (accepted_untouched s w i h e).p ffr p q
-    go ImageCut e none = elim none [ ]
-    go NotAllowed e none = elim none [ ]
-    go TrailingBytes e none = elim none [ ]
-    go BufferTooSmall e none = elim none [ ]
-    go FieldPastRange e none = elim none [ ]
-    go BadWalkRegisters e none = elim none [ ]
-    go ListTooShort e none = elim none [ ]
-    go BudgetSpent e none = elim none [ ]
-    go NotOwned e none = elim none [ ]
+    go (Err ImageCut) e none = elim none [ ]
+    go (Err NotAllowed) e none = elim none [ ]
+    go (Err TrailingBytes) e none = elim none [ ]
+    go (Err BufferTooSmall) e none = elim none [ ]
+    go (Err FieldPastRange) e none = elim none [ ]
+    go (Err BadWalkRegisters) e none = elim none [ ]
+    go (Err ListTooShort) e none = elim none [ ]
+    go (Err BudgetSpent) e none = elim none [ ]
+    go (Err NotOwned) e none = elim none [ ]

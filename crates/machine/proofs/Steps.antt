@@ -1,4 +1,8 @@
 -- A step and a run, from what each part of the code gives; a run is its steps. Assumes nothing.
+use Rattle.std.specs.Prelude.{Result}
+use Rattle.replies.specs.declared.Refusal.{Refusal}
+use Rattle.replies.specs.Reply.{Reply, is_done}
+use Rattle.std.specs.Prelude.{Ok, Err}
 use mathlib.Core.Bool.{Bool, true, false, not}
 use mathlib.Core.List.{List, [], ◌∷◌}
 use mathlib.Core.Path.{◌≡◌, refl, sym, ap, ◌∙◌}
@@ -10,16 +14,12 @@ use lib.Seq.{drop-cons}
 use borrow.Author.Tests.{lt-ltb, le-ltb, not-true, not-false}
 use Rattle.bits.specs.Choice.{pick}
 use Rattle.bits.proofs.Searches.{never}
-use Rattle.replies.specs.declared.Reply.{Reply}
-use Rattle.replies.specs.declared.Reply.TheVariants.{Done, LevelTooLow, AccessOff, IllegalState, NotMonotonic}
-use Rattle.replies.specs.Reply.{is_done}
+use Rattle.replies.specs.declared.Refusal.TheVariants.{LevelTooLow, AccessOff, IllegalState, NotMonotonic}
 use Rattle.registers.specs.declared.State.{State}
 use Rattle.registers.specs.declared.parts.Settings.{Settings}
 use Rattle.registers.specs.Legal.{legal}
 use Rattle.registers.specs.Parts.{predicates_of, counts_from, state_at, settings_of}
 use Rattle.registers.proofs.PartLaws.{parts_are}
-use Rattle.words.specs.declared.Decoded.{Decoded}
-use Rattle.words.specs.declared.Decoded.TheVariants.{Ours, Refused}
 use Rattle.words.specs.declared.Instruction.{Instruction}
 use Rattle.words.specs.Words.{decode_of, level_of}
 use Rattle.machine.specs.declared.Ran.{Ran}
@@ -43,22 +43,22 @@ pick_no true x y h = never refl h
 -- ---- the refusals 2, 3 and 14
 
 module _ (i : Instruction) (n level : ℕ) (access accepted : Bool) (asked : n ≡ level_of i) where
-  pub asks_more : level < n → LevelTooLow ≡ admission_of i level access accepted
+  pub asks_more : level < n → (Err LevelTooLow) ≡ admission_of i level access accepted
   asks_more l = sym (pick_yes _ _ _ (lt-ltb level (level_of i) (omega arith)))
 
-  level_enough : n ≤ level → admission_of i level access accepted ≡ pick access (pick accepted Done NotMonotonic) AccessOff
+  level_enough : n ≤ level → admission_of i level access accepted ≡ pick access (pick accepted (Ok tt) (Err NotMonotonic)) (Err AccessOff)
   level_enough l = pick_no _ _ _ (le-ltb level (level_of i) (omega arith))
 
-  pub no_access : n ≤ level → not access ≡ true → AccessOff ≡ admission_of i level access accepted
+  pub no_access : n ≤ level → not access ≡ true → (Err AccessOff) ≡ admission_of i level access accepted
   no_access l a = sym (level_enough l ∙ pick_no _ _ _ (not-true access a))
 
-  access_on : n ≤ level → not access ≡ false → admission_of i level access accepted ≡ pick accepted Done NotMonotonic
+  access_on : n ≤ level → not access ≡ false → admission_of i level access accepted ≡ pick accepted (Ok tt) (Err NotMonotonic)
   access_on l a = level_enough l ∙ pick_yes _ _ _ (not-false access a)
 
-  pub not_taken : n ≤ level → not access ≡ false → not accepted ≡ true → NotMonotonic ≡ admission_of i level access accepted
+  pub not_taken : n ≤ level → not access ≡ false → not accepted ≡ true → (Err NotMonotonic) ≡ admission_of i level access accepted
   not_taken l a t = sym (access_on l a ∙ pick_no _ _ _ (not-true accepted t))
 
-  pub admitted : n ≤ level → not access ≡ false → not accepted ≡ false → Done ≡ admission_of i level access accepted
+  pub admitted : n ≤ level → not access ≡ false → not accepted ≡ false → (Ok tt) ≡ admission_of i level access accepted
   admitted l a t = sym (access_on l a ∙ pick_yes _ _ _ (not-false accepted t))
 
 -- ---- an instruction, refused or executed
@@ -77,29 +77,29 @@ pub replied_in : (s : Settings) (f : List Bool) (x : List ℕ) (p c : List (List
 replied_in s f x p c i q v t r hq hv ht hr = replied (state_at s f x p c) i q v t r hq (hv s f) ht hr
 
 module _ (s : State) (i : Instruction) (r : Reply) (b : Bool) (is : r ≡ reply_of s i) (done : b ≡ is_done r) where
-  at_reply : answered r (pick b (execute_of s i) s) ≡ after_word s (Ours i)
+  at_reply : answered r (pick b (execute_of s i) s) ≡ after_word s (Ok i)
   unfolding after_word
   at_reply = ap (λ (t : Bool). answered r (pick t (execute_of s i) s)) done ∙ ap (λ (q : Reply). answered q (pick (is_done q) (execute_of s i) s)) is
 
-  pub stops : not b ≡ true → answered r s ≡ after_word s (Ours i)
+  pub stops : not b ≡ true → answered r s ≡ after_word s (Ok i)
   stops h = ap (answered r) (sym (pick_no b (execute_of s i) s (not-true b h))) ∙ at_reply
 
-  pub goes : (t : State) → not b ≡ false → t ≡ execute_of s i → answered r t ≡ after_word s (Ours i)
+  pub goes : (t : State) → not b ≡ false → t ≡ execute_of s i → answered r t ≡ after_word s (Ok i)
   goes t h e = ap (answered r) (e ∙ sym (pick_yes b (execute_of s i) s (not-false b h))) ∙ at_reply
 
 -- ---- a word, by what it is
 
-pub word-refused : (s : State) (w : ℕ) (d : Decoded) (r : Reply) → d ≡ decode_of w → d ≡ Refused r → answered r s ≡ after_word s (decode_of w)
+pub word-refused : (s : State) (w : ℕ) (d : Result Instruction Refusal) (r : Reply) → d ≡ decode_of w → d ≡ Err r → answered r s ≡ after_word s (decode_of w)
 unfolding after_word
 word-refused s w d r hd h = sym (ap (after_word s) (sym hd ∙ h))
 
-pub word_ours : (s : State) (w : ℕ) (d : Decoded) (i : Instruction) (t : Stepped) → d ≡ decode_of w → d ≡ Ours i → t ≡ after_word s (Ours i) → t ≡ after_word s (decode_of w)
+pub word_ours : (s : State) (w : ℕ) (d : Result Instruction Refusal) (i : Instruction) (t : Stepped) → d ≡ decode_of w → d ≡ Ok i → t ≡ after_word s (Ok i) → t ≡ after_word s (decode_of w)
 word_ours s w d i t hd h e = e ∙ sym (ap (after_word s) (sym hd ∙ h))
 
 -- ---- a step, legal or not
 
 module _ (s : State) (w : ℕ) (b : Bool) (is : b ≡ legal s) where
-  pub step-illegal : not b ≡ true → answered IllegalState s ≡ step_of s w
+  pub step-illegal : not b ≡ true → answered (Err IllegalState) s ≡ step_of s w
   unfolding step_of
   step-illegal h = sym (pick_no _ _ _ (sym is ∙ not-true b h))
 
@@ -113,13 +113,13 @@ step-legal s w e = pick_yes _ _ _ e
 
 -- the same where legality was tested whatever the flags
 module _ (s : Settings) (f : List Bool) (x : List ℕ) (p c : List (List ℕ)) (b : Bool) (is : (g : List Bool) → b ≡ legal (state_at s g x p c)) where
-  pub in_illegal : (w : ℕ) → not b ≡ true → answered IllegalState (state_at s f x p c) ≡ step_of (state_at s f x p c) w
+  pub in_illegal : (w : ℕ) → not b ≡ true → answered (Err IllegalState) (state_at s f x p c) ≡ step_of (state_at s f x p c) w
   in_illegal w h = step-illegal (state_at s f x p c) w b (is f) h
 
   pub in_goes : (w : ℕ) (t : Stepped) → not b ≡ false → t ≡ after_word (state_at s f x p c) (decode_of w) → t ≡ step_of (state_at s f x p c) w
   in_goes w t h e = step_goes (state_at s f x p c) w b (is f) t h e
 
-  pub run-illegal : (ws : List ℕ) → not b ≡ true → record { reply = IllegalState; refused = Done; done = 0; state = state_at s f x p c } ≡ run_of (state_at s f x p c) ws
+  pub run-illegal : (ws : List ℕ) → not b ≡ true → record { reply = Err IllegalState; refused = Ok tt; done = 0; state = state_at s f x p c } ≡ run_of (state_at s f x p c) ws
   unfolding run_of
   run-illegal ws h = sym (pick_no _ _ _ (sym (is f) ∙ not-true b h))
 
@@ -132,10 +132,10 @@ module _ (s : Settings) (f : List Bool) (x : List ℕ) (p c : List (List ℕ)) (
 
 -- ---- a legal state stays legal, refused or not
 
-pub after_kept : (s : State) (d : Decoded) → legal s ≡ true → legal (after_word s d).state ≡ true
+pub after_kept : (s : State) (d : Result Instruction Refusal) → legal s ≡ true → legal (after_word s d).state ≡ true
 unfolding after_word
-after_kept s (Refused r) k = k
-after_kept s (Ours i) k = go (is_done (reply_of s i))
+after_kept s (Err r) k = k
+after_kept s (Ok i) k = go (is_done (reply_of s i))
   where
     go : (b : Bool) → legal (pick b (execute_of s i) s) ≡ true
     go true = execute-legal s i k
@@ -147,41 +147,41 @@ step_kept s w k = ap (λ (x : Stepped). legal x.state) (step-legal s w k) ∙ af
 -- ---- words, one after the other
 
 module _ (ws : List ℕ) where
-  pub words_end : (s : State) (done : ℕ) → length ws ≤ done → record { reply = Done; refused = Done; done = done; state = s } ≡ steps_of done s (drop done ws)
+  pub words_end : (s : State) (done : ℕ) → length ws ≤ done → record { reply = Ok tt; refused = Ok tt; done = done; state = s } ≡ steps_of done s (drop done ws)
   unfolding steps_of
   words_end s done h = sym (ap (steps_of done s) (drop_of_length-le ws h))
 
   module _ (s : State) (done : ℕ) (t : Stepped) (b : Bool) (below : done < length ws) (is : t ≡ step_of s (get_or ws done 0)) (told : b ≡ is_done t.reply) where
-    next_word : steps_of done s (drop done ws) ≡ pick b (steps_of (suc done) t.state (drop (suc done) ws)) (record { reply = Done; refused = t.reply; done = done; state = t.state })
+    next_word : steps_of done s (drop done ws) ≡ pick b (steps_of (suc done) t.state (drop (suc done) ws)) (record { reply = Ok tt; refused = t.reply; done = done; state = t.state })
     unfolding steps_of
     next_word =
         ap (steps_of done s) (drop-cons ws done 0 below)
-        ∙ ap (λ (u : Stepped). pick (is_done u.reply) (steps_of (suc done) u.state (drop (suc done) ws)) (record { reply = Done; refused = u.reply; done = done; state = u.state })) (sym is)
-        ∙ ap (λ (c : Bool). pick c (steps_of (suc done) t.state (drop (suc done) ws)) (record { reply = Done; refused = t.reply; done = done; state = t.state })) (sym told)
+        ∙ ap (λ (u : Stepped). pick (is_done u.reply) (steps_of (suc done) u.state (drop (suc done) ws)) (record { reply = Ok tt; refused = u.reply; done = done; state = u.state })) (sym is)
+        ∙ ap (λ (c : Bool). pick c (steps_of (suc done) t.state (drop (suc done) ws)) (record { reply = Ok tt; refused = t.reply; done = done; state = t.state })) (sym told)
 
     pub words_on : not b ≡ false → steps_of (done + 1) t.state (drop (done + 1) ws) ≡ steps_of done s (drop done ws)
     words_on h = rw (add-one done) (sym (next_word ∙ pick_yes _ _ _ (not-false b h)))
 
-    pub words_stop : not b ≡ true → record { reply = Done; refused = t.reply; done = done; state = t.state } ≡ steps_of done s (drop done ws)
+    pub words_stop : not b ≡ true → record { reply = Ok tt; refused = t.reply; done = done; state = t.state } ≡ steps_of done s (drop done ws)
     words_stop h = sym (next_word ∙ pick_no _ _ _ (not-true b h))
 
 -- the turns of a run: legality, tested once, holds before every word
 module _ (ws : List ℕ) (s : State) (r : Ran) (done : ℕ) (ok : legal s ≡ true) (inv : steps_of done s (drop done ws) ≡ r) where
-  pub run_ends : length ws ≤ done → record { reply = Done; refused = Done; done = done; state = s } ≡ r
+  pub run_ends : length ws ≤ done → record { reply = Ok tt; refused = Ok tt; done = done; state = s } ≡ r
   run_ends h = words_end ws s done h ∙ inv
 
   module _ (reply : Reply) (t : State) (b : Bool) (below : done < length ws) (is : answered reply t ≡ after_word s (decode_of (get_or ws done 0))) (told : b ≡ is_done reply) where
     stepped : answered reply t ≡ step_of s (get_or ws done 0)
     stepped = is ∙ sym (step-legal s (get_or ws done 0) ok)
 
-    pub run_stops : not b ≡ true → record { reply = Done; refused = reply; done = done; state = t } ≡ r
+    pub run_stops : not b ≡ true → record { reply = Ok tt; refused = reply; done = done; state = t } ≡ r
     run_stops h = words_stop ws s done (answered reply t) b below stepped told h ∙ inv
 
     pub run_on : not b ≡ false → steps_of (done + 1) t (drop (done + 1) ws) ≡ r
     run_on h = words_on ws s done (answered reply t) b below stepped told h ∙ inv
 
 -- the same of an answer
-pub kept_on : (s : State) (d : Decoded) (t : Stepped) → legal s ≡ true → t ≡ after_word s d → legal t.state ≡ true
+pub kept_on : (s : State) (d : Result Instruction Refusal) (t : Stepped) → legal s ≡ true → t ≡ after_word s d → legal t.state ≡ true
 kept_on s d t k e = ap (λ (x : Stepped). legal x.state) e ∙ after_kept s d k
 
 -- ---- a run of a state by value, over its parts
@@ -204,7 +204,7 @@ steps_kept (w ∷ ws) done s k = go (is_done t.reply) (steps_kept ws (suc done) 
     t = step_of s w
 
     go : (b : Bool) → legal (steps_of (suc done) t.state ws).state ≡ true
-        → legal (pick b (steps_of (suc done) t.state ws) (record { reply = Done; refused = t.reply; done = done; state = t.state })).state ≡ true
+        → legal (pick b (steps_of (suc done) t.state ws) (record { reply = Ok tt; refused = t.reply; done = done; state = t.state })).state ≡ true
     go true h = h
     go false h = step_kept s w k
 

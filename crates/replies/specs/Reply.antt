@@ -25,9 +25,6 @@ refusal_number R.NotOwned = 15
 abbrev pub Reply : Type 0
 Reply = Result Unit Refusal
 
-abbrev pub done : Reply
-done = Ok tt
-
 -- the number of each reply
 abbrev pub number_of : Reply → ℕ
 number_of (Ok _) = 0

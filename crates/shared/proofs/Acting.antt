@@ -1,4 +1,8 @@
 -- A kernel's step and walk over states that are the same to it, and what they leave alone: an ordinary step's and an ordinary walk's, where the kernel may name what they name. Assumes nothing.
+use Rattle.std.specs.Prelude.{Result}
+use Rattle.replies.specs.declared.Refusal.{Refusal}
+use Rattle.replies.specs.Reply.{Reply, is_done}
+use Rattle.std.specs.Prelude.{Ok, Err}
 use mathlib.Core.Bool.{Bool, true, false, not}
 use mathlib.Core.List.{List}
 use mathlib.Core.Path.{◌≡◌, refl, sym, ap, ap₂, ◌∙◌, subst}
@@ -8,15 +12,11 @@ use lib.ListN.{length}
 use Rattle.bits.specs.declared.Size.{Size}
 use Rattle.bits.specs.Choice.{pick}
 use Rattle.predicates.specs.declared.Flags.{Flags}
-use Rattle.replies.specs.declared.Reply.{Reply}
-use Rattle.replies.specs.declared.Reply.TheVariants.{Done, IllegalState, BadWalkRegisters, LevelTooLow, AccessOff, ListTooShort, BudgetSpent, NotMonotonic, NotOwned}
-use Rattle.replies.specs.Reply.{is_done}
+use Rattle.replies.specs.declared.Refusal.TheVariants.{IllegalState, BadWalkRegisters, LevelTooLow, AccessOff, ListTooShort, BudgetSpent, NotMonotonic, NotOwned}
 use Rattle.registers.specs.declared.State.{State}
 use Rattle.registers.specs.Legal.{legal}
 use Rattle.registers.specs.State.{read_x, read_p}
 use Rattle.scalars.specs.declared.Condition.TheVariants.{Less}
-use Rattle.words.specs.declared.Decoded.{Decoded}
-use Rattle.words.specs.declared.Decoded.TheVariants.{Ours, Refused}
 use Rattle.words.specs.declared.Instruction.{Instruction}
 use Rattle.words.specs.declared.Instruction.TheVariants.{While, IncDec, Pnext, Pfalse}
 use Rattle.words.specs.declared.Target.TheVariants.{One}
@@ -44,22 +44,22 @@ module _ (who : Kernel) (a b : State) (s : Same who a b) where
       ap (λ (l : ℕ). admission_of i l a.access (accepts i (values_of a (registers_of i)))) s.level
       ∙ ap₂ (λ (c : Bool) (v : Values). admission_of i b.level c (accepts i v)) s.access (same-values who a b s (registers_of i) h)
 
-  pub after_same : (d : Decoded) → may_step who d ≡ true → ((after_word a d).reply ≡ (after_word b d).reply) × Same who (after_word a d).state (after_word b d).state
+  pub after_same : (d : Result Instruction Refusal) → may_step who d ≡ true → ((after_word a d).reply ≡ (after_word b d).reply) × Same who (after_word a d).state (after_word b d).state
   unfolding after_word may_step
-  after_same (Refused r) h = (refl, s)
-  after_same (Ours i) h =
+  after_same (Err r) h = (refl, s)
+  after_same (Ok i) h =
       let e = reply_same i h in
-      (e, subst (λ (r : Reply). Same who (after_word a (Ours i)).state (pick (is_done r) (execute_of b i) b)) e (go (is_done (reply_of a i))))
+      (e, subst (λ (r : Reply). Same who (after_word a (Ok i)).state (pick (is_done r) (execute_of b i) b)) e (go (is_done (reply_of a i))))
     where
       go : (t : Bool) → Same who (pick t (execute_of a i) a) (pick t (execute_of b i) b)
       go true = execute-same who a b s i h
       go false = s
 
   -- and where it may not
-  pub barred-same : (d : Decoded) → may_step who d ≡ false → barred (after_word a d).reply ≡ barred (after_word b d).reply
+  pub barred-same : (d : Result Instruction Refusal) → may_step who d ≡ false → barred (after_word a d).reply ≡ barred (after_word b d).reply
   unfolding after_word may_step stands_after
-  barred-same (Refused r) h = refl
-  barred-same (Ours i) h =
+  barred-same (Err r) h = refl
+  barred-same (Ok i) h =
       any_value i a.level a.access (accepts i (values_of a (registers_of i))) (accepts i (values_of b (registers_of i)))
       ∙ ap₂ (λ (l : ℕ) (c : Bool). barred (admission_of i l c (accepts i (values_of b (registers_of i))))) s.level s.access
     where
@@ -67,7 +67,7 @@ module _ (who : Kernel) (a b : State) (s : Same who a b) where
       any_value : (i : Instruction) (level : ℕ) (access t u : Bool) → barred (admission_of i level access t) ≡ barred (admission_of i level access u)
       any_value i level access t u = go (ltb level (level_of i)) access t u
         where
-          go : (low on t u : Bool) → barred (pick low LevelTooLow (pick on (pick t Done NotMonotonic) AccessOff)) ≡ barred (pick low LevelTooLow (pick on (pick u Done NotMonotonic) AccessOff))
+          go : (low on t u : Bool) → barred (pick low (Err LevelTooLow) (pick on (pick t (Ok tt) (Err NotMonotonic)) (Err AccessOff))) ≡ barred (pick low (Err LevelTooLow) (pick on (pick u (Ok tt) (Err NotMonotonic)) (Err AccessOff)))
           go true on t u = refl
           go false false t u = refl
           go false true true true = refl
@@ -75,10 +75,10 @@ module _ (who : Kernel) (a b : State) (s : Same who a b) where
           go false true false true = refl
           go false true false false = refl
 
-pub after_apart : (who : Kernel) (a : State) (d : Decoded) → may_step who d ≡ true → Apart who a (after_word a d).state
+pub after_apart : (who : Kernel) (a : State) (d : Result Instruction Refusal) → may_step who d ≡ true → Apart who a (after_word a d).state
 unfolding after_word may_step
-after_apart who a (Refused r) h = apart_none who a
-after_apart who a (Ours i) h = go (is_done (reply_of a i))
+after_apart who a (Err r) h = apart_none who a
+after_apart who a (Ok i) h = go (is_done (reply_of a i))
   where
     go : (t : Bool) → Apart who a (pick t (execute_of a i) a)
     go true = execute_apart who a i h
@@ -149,20 +149,20 @@ module _ (who : Kernel) (a b : State) (s : Same who a b) (alike : legal a ≡ le
   pub refusal-same : Walks who n m d k → refusal_of size n m d k a places ≡ refusal_of size n m d k b places
   unfolding refusal_of
   refusal-same w =
-      ap₂ (λ (g : Bool) (l : ℕ). pick (not g) IllegalState (pick (bad_registers size n m d k) BadWalkRegisters (pick (eqb l 0) LevelTooLow (pick (not a.access) AccessOff (pick (ltb places (distance n m a)) ListTooShort Done))))) alike s.level
-      ∙ ap (λ (c : Bool). pick (not (legal b)) IllegalState (pick (bad_registers size n m d k) BadWalkRegisters (pick (eqb b.level 0) LevelTooLow (pick (not c) AccessOff (pick (ltb places (distance n m a)) ListTooShort Done))))) s.access
-      ∙ ap₂ (λ (x y : ℕ). pick (not (legal b)) IllegalState (pick (bad_registers size n m d k) BadWalkRegisters (pick (eqb b.level 0) LevelTooLow (pick (not b.access) AccessOff (pick (ltb places (y - x)) ListTooShort Done))))) (s.x n w.start) (s.x m w.limit)
+      ap₂ (λ (g : Bool) (l : ℕ). pick (not g) (Err IllegalState) (pick (bad_registers size n m d k) (Err BadWalkRegisters) (pick (eqb l 0) (Err LevelTooLow) (pick (not a.access) (Err AccessOff) (pick (ltb places (distance n m a)) (Err ListTooShort) (Ok tt)))))) alike s.level
+      ∙ ap (λ (c : Bool). pick (not (legal b)) (Err IllegalState) (pick (bad_registers size n m d k) (Err BadWalkRegisters) (pick (eqb b.level 0) (Err LevelTooLow) (pick (not c) (Err AccessOff) (pick (ltb places (distance n m a)) (Err ListTooShort) (Ok tt)))))) s.access
+      ∙ ap₂ (λ (x y : ℕ). pick (not (legal b)) (Err IllegalState) (pick (bad_registers size n m d k) (Err BadWalkRegisters) (pick (eqb b.level 0) (Err LevelTooLow) (pick (not b.access) (Err AccessOff) (pick (ltb places (y - x)) (Err ListTooShort) (Ok tt)))))) (s.x n w.start) (s.x m w.limit)
 
 -- where a register is not the kernel's, the order is 4, 10, 2, 3, 15
 pub barred-refusal : (size n m d k places : ℕ) (a : State)
     → barred (refusal_of size n m d k a places)
-    ≡ pick (not (legal a)) IllegalState (pick (bad_registers size n m d k) BadWalkRegisters (pick (eqb a.level 0) LevelTooLow (pick (not a.access) AccessOff NotOwned)))
+    ≡ pick (not (legal a)) (Err IllegalState) (pick (bad_registers size n m d k) (Err BadWalkRegisters) (pick (eqb a.level 0) (Err LevelTooLow) (pick (not a.access) (Err AccessOff) (Err NotOwned))))
 unfolding refusal_of stands_after
 barred-refusal size n m d k places a = go (not (legal a)) (bad_registers size n m d k) (eqb a.level 0) (not a.access) (ltb places (distance n m a))
   where
     go : (x y z v w : Bool)
-        → barred (pick x IllegalState (pick y BadWalkRegisters (pick z LevelTooLow (pick v AccessOff (pick w ListTooShort Done)))))
-        ≡ pick x IllegalState (pick y BadWalkRegisters (pick z LevelTooLow (pick v AccessOff NotOwned)))
+        → barred (pick x (Err IllegalState) (pick y (Err BadWalkRegisters) (pick z (Err LevelTooLow) (pick v (Err AccessOff) (pick w (Err ListTooShort) (Ok tt))))))
+        ≡ pick x (Err IllegalState) (pick y (Err BadWalkRegisters) (pick z (Err LevelTooLow) (pick v (Err AccessOff) (Err NotOwned))))
     go true y z v w = refl
     go false true z v w = refl
     go false false true v w = refl
@@ -174,8 +174,8 @@ module _ (who : Kernel) (a b : State) (s : Same who a b) (alike : legal a ≡ le
   pub barred-refusal-same : barred (refusal_of size n m d k a places) ≡ barred (refusal_of size n m d k b places)
   barred-refusal-same =
       barred-refusal size n m d k places a
-      ∙ ap₂ (λ (g : Bool) (l : ℕ). pick (not g) IllegalState (pick (bad_registers size n m d k) BadWalkRegisters (pick (eqb l 0) LevelTooLow (pick (not a.access) AccessOff NotOwned)))) alike s.level
-      ∙ ap (λ (c : Bool). pick (not (legal b)) IllegalState (pick (bad_registers size n m d k) BadWalkRegisters (pick (eqb b.level 0) LevelTooLow (pick (not c) AccessOff NotOwned)))) s.access
+      ∙ ap₂ (λ (g : Bool) (l : ℕ). pick (not g) (Err IllegalState) (pick (bad_registers size n m d k) (Err BadWalkRegisters) (pick (eqb l 0) (Err LevelTooLow) (pick (not a.access) (Err AccessOff) (Err NotOwned))))) alike s.level
+      ∙ ap (λ (c : Bool). pick (not (legal b)) (Err IllegalState) (pick (bad_registers size n m d k) (Err BadWalkRegisters) (pick (eqb b.level 0) (Err LevelTooLow) (pick (not c) (Err AccessOff) (Err NotOwned))))) s.access
       ∙ sym (barred-refusal size n m d k places b)
 
 -- ---- a walk, refused or not
@@ -210,7 +210,7 @@ module _ (who : Kernel) (size n m d k budget : ℕ) (a b : State) (l : List ℕ)
           (pick t (plain_walk (size_of size) n m d k budget b l) (begin b l)).list
       go true =
           let r = walk_same who (size_of size) n m d k w budget a b l s in
-          record { reply = ap (λ (z : Bool). pick z Done BudgetSpent) r.ended; count = r.count; visited = r.visited; list = r.list; state = r.state }
+          record { reply = ap (λ (z : Bool). pick z (Ok tt) (Err BudgetSpent)) r.ended; count = r.count; visited = r.visited; list = r.list; state = r.state }
       go false = record { reply = refl; count = refl; visited = refl; list = refl; state = s }
 
   pub walked_apart : Apart who a (walk_of size n m d k budget a l).state

@@ -1,4 +1,5 @@
 -- One action of a kernel: what it answers and leaves follows from what is alike to that kernel; it changes nothing else; and a legal state stays legal. Assumes nothing.
+use Rattle.replies.specs.Reply.{Reply, is_done}
 use mathlib.Core.Bool.{Bool, true, false, ◌||◌}
 use mathlib.Core.List.{List, []}
 use mathlib.Core.Path.{◌≡◌, refl, sym, ap, ap₂, ◌∙◌, subst, subst₂}
@@ -9,8 +10,6 @@ use lib.ListN.{length, get_or-eq_default}
 use borrow.Author.Tests.{le-ltb, lt-leb, leb-true, ltb-true}
 use Rattle.predicates.specs.Predicate.{all_false}
 use Rattle.tally.specs.Counts.{counts_of, no_counts}
-use Rattle.replies.specs.declared.Reply.{Reply}
-use Rattle.replies.specs.Reply.{is_done}
 use Rattle.registers.specs.declared.State.{State}
 use Rattle.registers.specs.Legal.{legal}
 use Rattle.registers.specs.State.{ffr, read_x, read_p, read_counts, with_flags}

@@ -1,4 +1,6 @@
 -- What a kernel's step and walk answer, permitted or not; and whose flags stand where. Assumes nothing.
+use Rattle.replies.specs.Reply.{Reply}
+use Rattle.std.specs.Prelude.{Ok}
 use mathlib.Core.Bool.{Bool, true, false, not, ◌||◌}
 use mathlib.Core.List.{List}
 use mathlib.Core.Path.{◌≡◌, sym, ap, ◌∙◌, subst}
@@ -7,8 +9,6 @@ use lib.Dec.{eqb}
 use lib.ListN.{length}
 use borrow.Author.Tests.{not-true, not-false, eq-eqb, ne_eqb}
 use Rattle.predicates.specs.declared.Flags.{Flags}
-use Rattle.replies.specs.declared.Reply.{Reply}
-use Rattle.replies.specs.declared.Reply.TheVariants.{Done}
 use Rattle.registers.specs.declared.State.{State}
 use Rattle.registers.specs.State.{with_flags}
 use Rattle.words.specs.Words.{size_of, decode_of}
@@ -88,13 +88,13 @@ module _ (who : Kernel) (size n m d k budget : ℕ) (s : Shared) (l : List ℕ) 
   abbrev pub Answers : List ℕ → Walked → Type 0
   Answers after r =
       (r ≡ walk_of who size n m d k budget s l) ×
-      ((after ≡ list_of who size n m d k budget s l) × (refusal_of who size n m d k s (length l) ≡ Done → Demand3 (size_of size) n m d k budget (state_for who s) l after (walked_by who r)))
+      ((after ≡ list_of who size n m d k budget s l) × (refusal_of who size n m d k s (length l) ≡ Ok tt → Demand3 (size_of size) n m d k budget (state_for who s) l after (walked_by who r)))
 
   -- the same of an ordinary walk
   abbrev pub Ordinary : State → List ℕ → Walk'.Walked → Type 0
   Ordinary a after r =
       (r ≡ Walk.walk_of size n m d k budget a l) ×
-      ((after ≡ (Walk.whole_of size n m d k budget a l).list) × (Walk.refusal_of size n m d k a (length l) ≡ Done → Demand3 (size_of size) n m d k budget a l after r))
+      ((after ≡ (Walk.whole_of size n m d k budget a l).list) × (Walk.refusal_of size n m d k a (length l) ≡ Ok tt → Demand3 (size_of size) n m d k budget a l after r))
 
   module _ (a : State) (b : Bool) (has : a ≡ state_for who s) (may : b ≡ may_walk who n m d k) where
     pub walk-barred : (r q : Reply) → not b ≡ true → r ≡ Walk.refusal_of size n m d k a (length l) → q ≡ barred r → Answers l (record { reply = q; count = 0; visited = 0; shared = s })

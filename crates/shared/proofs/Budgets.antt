@@ -1,10 +1,10 @@
 -- Two budgets for one walk of a kernel: a larger one only adds; and such a walk taken up again. Assumes nothing but what the types of the walks' arguments say.
+use Rattle.std.specs.Prelude.{Ok}
 use mathlib.Core.Bool.{true}
 use mathlib.Core.List.{List, ◌++◌}
 use mathlib.Core.Path.{◌≡◌, refl, sym, ap, subst, subst₂, ◌∙◌}
 use Prim.Native.Nat.{ℕ, ◌-◌, ◌≤◌}
 use lib.ListN.{length, take, drop}
-use Rattle.replies.specs.declared.Reply.TheVariants.{Done}
 use Rattle.replies.proofs.Replies.{not_done}
 use Rattle.registers.specs.declared.State.{State}
 use Rattle.registers.specs.State.{with_flags}
@@ -36,12 +36,12 @@ module _ (who : Kernel) (size n m d k : ℕ) (s : Shared) (l : List ℕ) where
   abbrev under : ℕ → Walk State
   under b = plain_of who size n m d k b s l
 
-  module _ (e : refusal_of who size n m d k s (length l) ≡ Done) where
+  module _ (e : refusal_of who size n m d k s (length l) ≡ Ok tt) where
     -- its registers are the kernel's, and as an ordinary walk it is not refused
     may : may_walk who n m d k ≡ true
     may = let a = (accepted_when who size n m d k s (length l)).1 e in (owned_walks who size n m d k a.ordinary.registers).0 a.owned
 
-    ordinary : Ordinary.refusal_of size n m d k (state_for who s) (length l) ≡ Done
+    ordinary : Ordinary.refusal_of size n m d k (state_for who s) (length l) ≡ Ok tt
     ordinary = sym (refusal_may who size n m d k s may (length l)) ∙ e
 
     answered : (b : ℕ) → walk_of who size n m d k b s l ≡ walked_for who s (walked (under b))
@@ -83,7 +83,7 @@ module _ (who : Kernel) (size n m d k : ℕ) (s : Shared) (l : List ℕ) where
         )
 
   -- no refusal but 12 looks at the budget
-  pub kernel_refused-same : (refusal_of who size n m d k s (length l) ≡ Done → ⊥) → (a b : ℕ) → KernelSameResults who size n m d k a b s l
+  pub kernel_refused-same : (refusal_of who size n m d k s (length l) ≡ Ok tt → ⊥) → (a b : ℕ) → KernelSameResults who size n m d k a b s l
   kernel_refused-same refused a b =
       let e = not_done (refusal_of who size n m d k s (length l)) refused in (
         walk_refused who size n m d k a s l e ∙ sym (walk_refused who size n m d k b s l e),
@@ -98,7 +98,7 @@ unfolding shared_after with_flags
 left_again First s t u = refl
 left_again Second s t u = refl
 
-module _ (who : Kernel) (size n m d k : ℕ) (s : Shared) (l : List ℕ) (typed : Typed s.state) (e : refusal_of who size n m d k s (length l) ≡ Done) (a : ℕ) where
+module _ (who : Kernel) (size n m d k : ℕ) (s : Shared) (l : List ℕ) (typed : Typed s.state) (e : refusal_of who size n m d k s (length l) ≡ Ok tt) (a : ℕ) where
   abbrev v : Walk State
   v = plain_of who size n m d k a s l
 
@@ -118,7 +118,7 @@ module _ (who : Kernel) (size n m d k : ℕ) (s : Shared) (l : List ℕ) (typed 
       whole_accepted size n m d k a (state_for who s) l o ∙ ap (λ (t : State). record { state = t; list = v.list; count = v.count; visited = v.visited; next = v.next; ended = v.ended }) (sym (left_has who s v.state)) in
       subst (Resumes size n m d k a (state_for who s) l) same (resumed size n m d k (state_for who s) l (record { fits = typed.fits }) o a)
 
-  left : (t : Shared) (b : ℕ) (x : List ℕ) (q : refusal_of who size n m d k t (length x) ≡ Done) → (walk_of who size n m d k b t x).shared ≡ shared_after who t (whole_of size n m d k b (state_for who t) x).state
+  left : (t : Shared) (b : ℕ) (x : List ℕ) (q : refusal_of who size n m d k t (length x) ≡ Ok tt) → (walk_of who size n m d k b t x).shared ≡ shared_after who t (whole_of size n m d k b (state_for who t) x).state
   left t b x q =
       ap (λ (r : Walked). r.shared) (answered who size n m d k t x q b)
       ∙ ap (λ (w : Walk State). shared_after who t w.state) (sym (whole_accepted size n m d k b (state_for who t) x (ordinary who size n m d k t x q)))
@@ -128,7 +128,7 @@ module _ (who : Kernel) (size n m d k : ℕ) (s : Shared) (l : List ℕ) (typed 
   plain_resumed =
       let o = grown n s.state next.state in
       let r = ordinary_resumed in
-      let q : refusal_of who size n m d k next (length (drop o v.list)) ≡ Done = refusal_may who size n m d k next (may who size n m d k s l e) _ ∙ r.accepted in
+      let q : refusal_of who size n m d k next (length (drop o v.list)) ≡ (Ok tt) = refusal_may who size n m d k next (may who size n m d k s l e) _ ∙ r.accepted in
       record {
         xn = r.xn;
         stopped = r.stopped;

@@ -1,5 +1,7 @@
 -- Two kernels at VL 128: replies and their order, computed from the definitions; what the theorems ask of states is met; and, for each rule of ownership, two states that are alike to a kernel but of which
 -- an ordinary step, which knows no owners, makes different things.
+use Rattle.replies.specs.Reply.{number_of}
+use Rattle.std.specs.Prelude.{Ok, Err}
 use mathlib.Core.Bool.{Bool, true, false}
 use mathlib.Core.List.{List, [], ◌∷◌, map}
 use mathlib.Core.Path.{◌≡◌, refl, sym}
@@ -16,8 +18,7 @@ use Rattle.bits.proofs.Searches.{never}
 use Rattle.predicates.specs.PredTest.{at_lowest, at_highest, pred_test, nzcv, flags_of}
 use Rattle.predicates.specs.Predicate.{bit_at, pack, active, spread, elements, predicate_length, has_bit_from, monotonic, all_false}
 use Rattle.tally.specs.Counts.{counts_of, same_counts}
-use Rattle.replies.specs.declared.Reply.TheVariants.{Done, LevelTooLow, AccessOff, IllegalState, BadWalkRegisters, ListTooShort, BudgetSpent, NotOwned}
-use Rattle.replies.specs.Reply.{number_of}
+use Rattle.replies.specs.declared.Refusal.TheVariants.{LevelTooLow, AccessOff, IllegalState, BadWalkRegisters, ListTooShort, BudgetSpent, NotOwned}
 use Rattle.registers.specs.Legal.{has_all_registers, is_length, has_stray_bit, has_wrong_count, illegal, legal}
 use Rattle.registers.specs.State.{all_counts, made, read_x, read_p, with_x, with_p, with_flags}
 use Rattle.registers.proofs.Registers.{read_x-other, read_p-other}
@@ -152,7 +153,7 @@ counter_seconds : may_name First (registers_of (While Less true (Counter false 7
 unfolding fits
 counter_seconds = counter-not-first Less true false 7 Sz.S 1 2 refl
 
-counter-not_done : (step_of First held (word_of (While Less true (Counter false 7) Sz.S 1 2))).reply ≡ Done → ⊥
+counter-not_done : (step_of First held (word_of (While Less true (Counter false 7) Sz.S 1 2))).reply ≡ Ok tt → ⊥
 unfolding fits
 counter-not_done = counter-refused Less true false 7 Sz.S 1 2 held (word_of (While Less true (Counter false 7) Sz.S 1 2)) (omega arith) (read-written (While Less true (Counter false 7) Sz.S 1 2) refl)
 
@@ -175,11 +176,11 @@ premises : (places : ℕ) → 5 ≤ places → Accepted Second 2 16 17 8 9 (star
 unfolding start test_bit number count some bit_at pack active elements predicate_length has_bit_from has_all_registers is_length has_stray_bit all_counts counts_of same_counts has_wrong_count illegal
 premises places h = record { ordinary = record { legal_is = refl; registers = numbers; present = omega arith; on = refl; room = h }; owned = seconds_own }
 
-accepts : (places : ℕ) → 5 ≤ places → refusal_of Second 2 16 17 8 9 (start 3 true 5) places ≡ Done
+accepts : (places : ℕ) → 5 ≤ places → refusal_of Second 2 16 17 8 9 (start 3 true 5) places ≡ Ok tt
 accepts places h = (accepted_when Second 2 16 17 8 9 (start 3 true 5) places).0 (premises places h)
 
 -- 31 is open to both as the limit
-to_31 : refusal_of First 2 1 31 0 1 (start 3 true 5) 0 ≡ Done
+to_31 : refusal_of First 2 1 31 0 1 (start 3 true 5) 0 ≡ Ok tt
 unfolding start test_bit number count some bit_at pack active elements predicate_length has_bit_from has_all_registers is_length has_stray_bit all_counts counts_of same_counts has_wrong_count illegal
 to_31 =
     let registers = good 1 31 0 1 (omega arith) (omega arith) (omega arith) (omega arith) (λ e. omega arith) (λ e. omega arith) in
@@ -204,20 +205,20 @@ typed level access x17 h = record { fits = fits }
 
 -- every row of a walk's table applies to some walk: 5 + 3 · 2 + 2 instructions and one less; a place too few; the other's registers; access off; level 0; one X register twice; a level that is none
 each_reply : (l : List ℕ) → length l ≡ 5
-    → ((walk_of Second 2 16 17 8 9 13 (start 3 true 5) l).reply ≡ Done) × ((walk_of Second 2 16 17 8 9 12 (start 3 true 5) l).reply ≡ BudgetSpent)
-    × ((walk_of Second 2 16 17 8 9 13 (start 3 true 6) l).reply ≡ ListTooShort) × ((walk_of First 2 16 17 8 9 13 (start 3 true 6) l).reply ≡ NotOwned)
-    × ((walk_of First 2 16 17 8 9 13 (start 3 false 6) l).reply ≡ AccessOff) × ((walk_of First 2 16 17 8 9 13 (start 0 false 6) l).reply ≡ LevelTooLow)
-    × ((walk_of First 2 16 16 8 9 13 (start 0 false 6) l).reply ≡ BadWalkRegisters) × ((walk_of First 2 16 16 8 9 13 (start 4 false 6) l).reply ≡ IllegalState)
+    → ((walk_of Second 2 16 17 8 9 13 (start 3 true 5) l).reply ≡ Ok tt) × ((walk_of Second 2 16 17 8 9 12 (start 3 true 5) l).reply ≡ Err BudgetSpent)
+    × ((walk_of Second 2 16 17 8 9 13 (start 3 true 6) l).reply ≡ Err ListTooShort) × ((walk_of First 2 16 17 8 9 13 (start 3 true 6) l).reply ≡ Err NotOwned)
+    × ((walk_of First 2 16 17 8 9 13 (start 3 false 6) l).reply ≡ Err AccessOff) × ((walk_of First 2 16 17 8 9 13 (start 0 false 6) l).reply ≡ Err LevelTooLow)
+    × ((walk_of First 2 16 16 8 9 13 (start 0 false 6) l).reply ≡ Err BadWalkRegisters) × ((walk_of First 2 16 16 8 9 13 (start 4 false 6) l).reply ≡ Err IllegalState)
 unfolding start test_bit number count some bit_at pack active elements predicate_length has_bit_from has_all_registers is_length has_stray_bit all_counts counts_of same_counts has_wrong_count illegal Walk.bad_registers
 each_reply l h = (
-  (walk_exactly_when Second 2 16 17 8 9 13 (start 3 true 5) l (typed 3 true 5 (omega arith)) Done).1 (row_0 (premises (length l) (omega arith)) (omega arith)),
-  (walk_exactly_when Second 2 16 17 8 9 12 (start 3 true 5) l (typed 3 true 5 (omega arith)) BudgetSpent).1 (row_12 (premises (length l) (omega arith)) (omega arith)),
-  (walk_exactly_when Second 2 16 17 8 9 13 (start 3 true 6) l (typed 3 true 6 (omega arith)) ListTooShort).1 (row_11 refl numbers (omega arith) refl seconds_own (omega arith)),
-  (walk_exactly_when First 2 16 17 8 9 13 (start 3 true 6) l (typed 3 true 6 (omega arith)) NotOwned).1 (row_15 refl numbers (omega arith) refl not_firsts),
-  (walk_exactly_when First 2 16 17 8 9 13 (start 3 false 6) l (typed 3 false 6 (omega arith)) AccessOff).1 (row_3 refl numbers (omega arith) refl),
-  (walk_exactly_when First 2 16 17 8 9 13 (start 0 false 6) l (typed 0 false 6 (omega arith)) LevelTooLow).1 (row_2 refl numbers refl),
-  (walk_exactly_when First 2 16 16 8 9 13 (start 0 false 6) l (typed 0 false 6 (omega arith)) BadWalkRegisters).1 (row_10 refl refl),
-  (walk_exactly_when First 2 16 16 8 9 13 (start 4 false 6) l (typed 4 false 6 (omega arith)) IllegalState).1 (row_4 refl),
+  (walk_exactly_when Second 2 16 17 8 9 13 (start 3 true 5) l (typed 3 true 5 (omega arith)) (Ok tt)).1 (row_0 (premises (length l) (omega arith)) (omega arith)),
+  (walk_exactly_when Second 2 16 17 8 9 12 (start 3 true 5) l (typed 3 true 5 (omega arith)) (Err BudgetSpent)).1 (row_12 (premises (length l) (omega arith)) (omega arith)),
+  (walk_exactly_when Second 2 16 17 8 9 13 (start 3 true 6) l (typed 3 true 6 (omega arith)) (Err ListTooShort)).1 (row_11 refl numbers (omega arith) refl seconds_own (omega arith)),
+  (walk_exactly_when First 2 16 17 8 9 13 (start 3 true 6) l (typed 3 true 6 (omega arith)) (Err NotOwned)).1 (row_15 refl numbers (omega arith) refl not_firsts),
+  (walk_exactly_when First 2 16 17 8 9 13 (start 3 false 6) l (typed 3 false 6 (omega arith)) (Err AccessOff)).1 (row_3 refl numbers (omega arith) refl),
+  (walk_exactly_when First 2 16 17 8 9 13 (start 0 false 6) l (typed 0 false 6 (omega arith)) (Err LevelTooLow)).1 (row_2 refl numbers refl),
+  (walk_exactly_when First 2 16 16 8 9 13 (start 0 false 6) l (typed 0 false 6 (omega arith)) (Err BadWalkRegisters)).1 (row_10 refl refl),
+  (walk_exactly_when First 2 16 16 8 9 13 (start 4 false 6) l (typed 4 false 6 (omega arith)) (Err IllegalState)).1 (row_4 refl),
 )
 
 -- ---- why each rule is needed: without owners, what is alike to a kernel does not decide

@@ -1,4 +1,8 @@
 -- Which registers a kernel may name, test by test. Assumes nothing.
+use Rattle.std.specs.Prelude.{Result}
+use Rattle.std.specs.Prelude.{Ok, Err}
+use Rattle.replies.specs.declared.Refusal.{Refusal}
+use Rattle.replies.specs.Reply.{Reply}
 use mathlib.Core.Bool.{Bool, true, false, not, ◌&&◌, ◌||◌}
 use mathlib.Core.Path.{◌≡◌, refl, sym, ap, ◌∙◌}
 use Prim.Native.Nat.{ℕ, ◌≤◌, ◌<◌}
@@ -6,10 +10,7 @@ use native.Mathlib.Decide.{dec_lt}
 use native.Mathlib.Omega.{arith}
 use lib.Dec.{ltb}
 use borrow.Author.Tests.{lt-ltb, le-ltb, le-leb, lt-leb, not-true, not-false}
-use Rattle.words.specs.declared.Decoded.{Decoded}
-use Rattle.words.specs.declared.Decoded.TheVariants.{Ours, Refused}
 use Rattle.words.specs.declared.Instruction.{Instruction}
-use Rattle.replies.specs.declared.Reply.{Reply}
 use Rattle.registers.specs.State.{ffr}
 use Rattle.words.specs.Words.{decode_of}
 use Rattle.instructions.specs.declared.operands.Registers.{Registers}
@@ -91,11 +92,11 @@ nobodys Second = refl
 
 -- ---- a word, by what it is
 
-module _ (who : Kernel) (w : ℕ) (d : Decoded) (is : d ≡ decode_of w) where
-  pub refused_may : (r : Reply) → d ≡ Refused r → true ≡ may_step who (decode_of w)
+module _ (who : Kernel) (w : ℕ) (d : Result Instruction Refusal) (is : d ≡ decode_of w) where
+  pub refused_may : (r : Reply) → d ≡ Err r → true ≡ may_step who (decode_of w)
   unfolding may_step
   refused_may r e = sym (ap (may_step who) (sym is ∙ e))
 
-  pub ours_may : (i : Instruction) (q : Registers) (b : Bool) → d ≡ Ours i → q ≡ registers_of i → b ≡ may_name who q → b ≡ may_step who (decode_of w)
+  pub ours_may : (i : Instruction) (q : Registers) (b : Bool) → d ≡ Ok i → q ≡ registers_of i → b ≡ may_name who q → b ≡ may_step who (decode_of w)
   unfolding may_step
   ours_may i q b e eq eb = eb ∙ ap (may_name who) eq ∙ sym (ap (may_step who) (sym is ∙ e))

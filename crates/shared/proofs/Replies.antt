@@ -1,4 +1,6 @@
 -- Each reply of a kernel's step is given exactly when the table says; the order of a walk's; and what follows of the shared state. Assumes nothing.
+use Rattle.replies.specs.Reply.{Reply, is_done}
+use Rattle.std.specs.Prelude.{Ok, Err}
 use mathlib.Core.Bool.{Bool, true, false, not}
 use mathlib.Core.List.{List}
 use mathlib.Core.Logic.{◌↔◌}
@@ -11,14 +13,11 @@ use borrow.Author.Tests.{lt-ltb, le-ltb}
 use Rattle.bits.specs.declared.Size.{Size}
 use Rattle.bits.specs.Choice.{pick}
 use Rattle.bits.proofs.Searches.{never}
-use Rattle.replies.specs.declared.Reply.{Reply}
-use Rattle.replies.specs.declared.Reply.TheVariants.{Done, ForeignWord, LevelTooLow, AccessOff, IllegalState, BadWalkRegisters, ListTooShort, UnsupportedForm, NotMonotonic, NotOwned, BudgetSpent, BufferTooSmall, FieldPastRange, ImageCut, NotAllowed, TrailingBytes}
-use Rattle.replies.specs.Reply.{is_done}
+use Rattle.replies.specs.declared.Refusal.TheVariants.{ForeignWord, LevelTooLow, AccessOff, IllegalState, BadWalkRegisters, ListTooShort, UnsupportedForm, NotMonotonic, NotOwned, BudgetSpent, BufferTooSmall, FieldPastRange, ImageCut, NotAllowed, TrailingBytes}
 use Rattle.registers.specs.declared.State.{State}
 use Rattle.registers.specs.Legal.{legal}
 use Rattle.registers.specs.State.{with_flags}
 use Rattle.scalars.specs.declared.Condition.{Condition}
-use Rattle.words.specs.declared.Decoded.TheVariants.{Ours, Refused}
 use Rattle.words.specs.declared.Instruction.{Instruction}
 use Rattle.words.specs.declared.Instruction.TheVariants.{While, Wrffr}
 use Rattle.words.specs.declared.Target.TheVariants.{Counter}
@@ -58,58 +57,58 @@ theirs Second s t = refl
 -- ---- the reply of a legal state's step, from what the word is
 
 module _ (who : Kernel) (s : Shared) (w : ℕ) (ok : legal s.state ≡ true) where
-  refused_is : (r : Reply) → decode_of w ≡ Refused r → step_of who s w ≡ record { reply = r; shared = s }
+  refused_is : (r : Reply) → decode_of w ≡ Err r → step_of who s w ≡ record { reply = r; shared = s }
   unfolding after_word
   refused_is r h = step_after who s w ok ∙ ap (after_word who s) h
 
-  module _ (i : Instruction) (ours : decode_of w ≡ Ours i) where
+  module _ (i : Instruction) (ours : decode_of w ≡ Ok i) where
     reply_is : (r : Reply) → reply_of who s i ≡ r → step_of who s w ≡ record { reply = r; shared = pick (is_done r) (shared_after who s (execute_of (state_for who s) i)) s }
     unfolding after_word
     reply_is r e =
         step_after who s w ok ∙ ap (after_word who s) ours
         ∙ ap (λ (q : Reply). record { reply = q; shared = pick (is_done q) (shared_after who s (execute_of (state_for who s) i)) s }) e
 
-    low_is : s.state.level < level_of i → step_of who s w ≡ record { reply = LevelTooLow; shared = s }
-    low_is l = reply_is LevelTooLow (pick_yes _ _ _ (lt-ltb s.state.level (level_of i) l))
+    low_is : s.state.level < level_of i → step_of who s w ≡ record { reply = Err LevelTooLow; shared = s }
+    low_is l = reply_is (Err LevelTooLow) (pick_yes _ _ _ (lt-ltb s.state.level (level_of i) l))
 
     module _ (enough : level_of i ≤ s.state.level) where
-      past-level : reply_of who s i ≡ pick (not s.state.access) AccessOff (pick (not (may_name who (registers_of i))) NotOwned Done)
+      past-level : reply_of who s i ≡ pick (not s.state.access) (Err AccessOff) (pick (not (may_name who (registers_of i))) (Err NotOwned) (Ok tt))
       past-level = pick_no _ _ _ (le-ltb s.state.level (level_of i) enough)
 
-      off_is : s.state.access ≡ false → step_of who s w ≡ record { reply = AccessOff; shared = s }
-      off_is a = reply_is AccessOff (past-level ∙ pick_yes _ _ _ (ap not a))
+      off_is : s.state.access ≡ false → step_of who s w ≡ record { reply = Err AccessOff; shared = s }
+      off_is a = reply_is (Err AccessOff) (past-level ∙ pick_yes _ _ _ (ap not a))
 
       module _ (on : s.state.access ≡ true) where
-        past_access : reply_of who s i ≡ pick (not (may_name who (registers_of i))) NotOwned Done
+        past_access : reply_of who s i ≡ pick (not (may_name who (registers_of i))) (Err NotOwned) (Ok tt)
         past_access = past-level ∙ pick_no _ _ _ (ap not on)
 
-        barred_is : may_name who (registers_of i) ≡ false → step_of who s w ≡ record { reply = NotOwned; shared = s }
-        barred_is m = reply_is NotOwned (past_access ∙ pick_yes _ _ _ (ap not m))
+        barred_is : may_name who (registers_of i) ≡ false → step_of who s w ≡ record { reply = Err NotOwned; shared = s }
+        barred_is m = reply_is (Err NotOwned) (past_access ∙ pick_yes _ _ _ (ap not m))
 
-        done_is : may_name who (registers_of i) ≡ true → step_of who s w ≡ record { reply = Done; shared = shared_after who s (execute_of (state_for who s) i) }
-        done_is m = reply_is Done (past_access ∙ pick_no _ _ _ (ap not m))
+        done_is : may_name who (registers_of i) ≡ true → step_of who s w ≡ record { reply = Ok tt; shared = shared_after who s (execute_of (state_for who s) i) }
+        done_is m = reply_is (Ok tt) (past_access ∙ pick_no _ _ _ (ap not m))
 
 -- ---- exactly when
 
 module _ (who : Kernel) (s : Shared) (w : ℕ) where
   -- a reply that the table gives is the step's
   given_reply : (r : Reply) → Given who s w r → (step_of who s w).reply ≡ r
-  given_reply IllegalState (illegal h) = ap (λ (t : Stepped). t.reply) (step-illegal who s w h)
-  given_reply ForeignWord (foreign ok h) = ap (λ (t : Stepped). t.reply) (refused_is who s w ok ForeignWord ((foreign_read w).1 h))
-  given_reply UnsupportedForm (unsupported ok h k) = ap (λ (t : Stepped). t.reply) (refused_is who s w ok UnsupportedForm (unread w h k))
-  given_reply LevelTooLow (low i ok h l) = ap (λ (t : Stepped). t.reply) (low_is who s w ok i h l)
-  given_reply AccessOff (off i ok h l a) = ap (λ (t : Stepped). t.reply) (off_is who s w ok i h l a)
-  given_reply NotOwned (not_owned i ok h l a m) = ap (λ (t : Stepped). t.reply) (barred_is who s w ok i h l a m)
-  given_reply Done (done i ok h l a m) = ap (λ (t : Stepped). t.reply) (done_is who s w ok i h l a m)
-  given_reply ImageCut none = elim none [ ]
-  given_reply NotAllowed none = elim none [ ]
-  given_reply TrailingBytes none = elim none [ ]
-  given_reply BufferTooSmall none = elim none [ ]
-  given_reply FieldPastRange none = elim none [ ]
-  given_reply BadWalkRegisters none = elim none [ ]
-  given_reply ListTooShort none = elim none [ ]
-  given_reply BudgetSpent none = elim none [ ]
-  given_reply NotMonotonic none = elim none [ ]
+  given_reply (Err IllegalState) (illegal h) = ap (λ (t : Stepped). t.reply) (step-illegal who s w h)
+  given_reply (Err ForeignWord) (foreign ok h) = ap (λ (t : Stepped). t.reply) (refused_is who s w ok (Err ForeignWord) ((foreign_read w).1 h))
+  given_reply (Err UnsupportedForm) (unsupported ok h k) = ap (λ (t : Stepped). t.reply) (refused_is who s w ok (Err UnsupportedForm) (unread w h k))
+  given_reply (Err LevelTooLow) (low i ok h l) = ap (λ (t : Stepped). t.reply) (low_is who s w ok i h l)
+  given_reply (Err AccessOff) (off i ok h l a) = ap (λ (t : Stepped). t.reply) (off_is who s w ok i h l a)
+  given_reply (Err NotOwned) (not_owned i ok h l a m) = ap (λ (t : Stepped). t.reply) (barred_is who s w ok i h l a m)
+  given_reply (Ok tt) (done i ok h l a m) = ap (λ (t : Stepped). t.reply) (done_is who s w ok i h l a m)
+  given_reply (Err ImageCut) none = elim none [ ]
+  given_reply (Err NotAllowed) none = elim none [ ]
+  given_reply (Err TrailingBytes) none = elim none [ ]
+  given_reply (Err BufferTooSmall) none = elim none [ ]
+  given_reply (Err FieldPastRange) none = elim none [ ]
+  given_reply (Err BadWalkRegisters) none = elim none [ ]
+  given_reply (Err ListTooShort) none = elim none [ ]
+  given_reply (Err BudgetSpent) none = elim none [ ]
+  given_reply (Err NotMonotonic) none = elim none [ ]
 
   -- and one of its rows applies: an ordinary step's, with 15 for 14, and for 0 where a register is not the kernel's
   row : (r : Reply) × Given who s w r
@@ -119,27 +118,27 @@ module _ (who : Kernel) (s : Shared) (w : ℕ) where
       is : {b : Bool} → legal (state_for who s) ≡ b → legal s.state ≡ b
       is h = sym (for_legal who s) ∙ h
 
-      by_owner : (i : Instruction) → legal (state_for who s) ≡ true → decode_of w ≡ Ours i → level_of i ≤ s.state.level → s.state.access ≡ true → (b : Bool) → may_name who (registers_of i) ≡ b → (r : Reply) × Given who s w r
-      by_owner i ok h l a true m = (Done, done i (is ok) h l a m)
-      by_owner i ok h l a false m = (NotOwned, not_owned i (is ok) h l a m)
+      by_owner : (i : Instruction) → legal (state_for who s) ≡ true → decode_of w ≡ Ok i → level_of i ≤ s.state.level → s.state.access ≡ true → (b : Bool) → may_name who (registers_of i) ≡ b → (r : Reply) × Given who s w r
+      by_owner i ok h l a true m = ((Ok tt), done i (is ok) h l a m)
+      by_owner i ok h l a false m = ((Err NotOwned), not_owned i (is ok) h l a m)
 
       go : (r : Reply) → Rows.Given (state_for who s) w r → (q : Reply) × Given who s w q
-      go IllegalState (row_4 h) = (IllegalState, illegal (is h))
-      go ForeignWord (row_1 ok h) = (ForeignWord, foreign (is ok) h)
-      go UnsupportedForm (row_13 ok h k) = (UnsupportedForm, unsupported (is ok) h k)
-      go LevelTooLow (row_2 i ok h l) = (LevelTooLow, low i (is ok) h l)
-      go AccessOff (row_3 i ok h l a) = (AccessOff, off i (is ok) h l a)
-      go NotMonotonic (row_14 pn ok h l a m) = by_owner (Wrffr pn) ok h l a (may_name who (registers_of (Wrffr pn))) refl
-      go Done (row_0 i ok h l a m) = by_owner i ok h l a (may_name who (registers_of i)) refl
-      go ImageCut none = elim none [ ]
-      go NotAllowed none = elim none [ ]
-      go TrailingBytes none = elim none [ ]
-      go BufferTooSmall none = elim none [ ]
-      go FieldPastRange none = elim none [ ]
-      go BadWalkRegisters none = elim none [ ]
-      go ListTooShort none = elim none [ ]
-      go BudgetSpent none = elim none [ ]
-      go NotOwned none = elim none [ ]
+      go (Err IllegalState) (row_4 h) = ((Err IllegalState), illegal (is h))
+      go (Err ForeignWord) (row_1 ok h) = ((Err ForeignWord), foreign (is ok) h)
+      go (Err UnsupportedForm) (row_13 ok h k) = ((Err UnsupportedForm), unsupported (is ok) h k)
+      go (Err LevelTooLow) (row_2 i ok h l) = ((Err LevelTooLow), low i (is ok) h l)
+      go (Err AccessOff) (row_3 i ok h l a) = ((Err AccessOff), off i (is ok) h l a)
+      go (Err NotMonotonic) (row_14 pn ok h l a m) = by_owner (Wrffr pn) ok h l a (may_name who (registers_of (Wrffr pn))) refl
+      go (Ok tt) (row_0 i ok h l a m) = by_owner i ok h l a (may_name who (registers_of i)) refl
+      go (Err ImageCut) none = elim none [ ]
+      go (Err NotAllowed) none = elim none [ ]
+      go (Err TrailingBytes) none = elim none [ ]
+      go (Err BufferTooSmall) none = elim none [ ]
+      go (Err FieldPastRange) none = elim none [ ]
+      go (Err BadWalkRegisters) none = elim none [ ]
+      go (Err ListTooShort) none = elim none [ ]
+      go (Err BudgetSpent) none = elim none [ ]
+      go (Err NotOwned) none = elim none [ ]
 
   pub exactly_when : (r : Reply) → ((step_of who s w).reply ≡ r) ↔ Given who s w r
   exactly_when r = (there, given_reply r)
@@ -150,55 +149,55 @@ module _ (who : Kernel) (s : Shared) (w : ℕ) where
   -- ---- what follows of the shared state
 
   -- a reply other than 0 leaves it as it was
-  pub refused-step : ((step_of who s w).reply ≡ Done → ⊥) → (step_of who s w).shared ≡ s
+  pub refused-step : ((step_of who s w).reply ≡ Ok tt → ⊥) → (step_of who s w).shared ≡ s
   refused-step h = let (r, g) = row in go r g
     where
       go : (r : Reply) → Given who s w r → (step_of who s w).shared ≡ s
-      go IllegalState (illegal b) = ap (λ (t : Stepped). t.shared) (step-illegal who s w b)
-      go ForeignWord (foreign ok b) = ap (λ (t : Stepped). t.shared) (refused_is who s w ok ForeignWord ((foreign_read w).1 b))
-      go UnsupportedForm (unsupported ok b k) = ap (λ (t : Stepped). t.shared) (refused_is who s w ok UnsupportedForm (unread w b k))
-      go LevelTooLow (low i ok b l) = ap (λ (t : Stepped). t.shared) (low_is who s w ok i b l)
-      go AccessOff (off i ok b l a) = ap (λ (t : Stepped). t.shared) (off_is who s w ok i b l a)
-      go NotOwned (not_owned i ok b l a m) = ap (λ (t : Stepped). t.shared) (barred_is who s w ok i b l a m)
-      go Done (done i ok b l a m) = absurd (h (given_reply Done (done i ok b l a m)))
-      go ImageCut none = elim none [ ]
-      go NotAllowed none = elim none [ ]
-      go TrailingBytes none = elim none [ ]
-      go BufferTooSmall none = elim none [ ]
-      go FieldPastRange none = elim none [ ]
-      go BadWalkRegisters none = elim none [ ]
-      go ListTooShort none = elim none [ ]
-      go BudgetSpent none = elim none [ ]
-      go NotMonotonic none = elim none [ ]
+      go (Err IllegalState) (illegal b) = ap (λ (t : Stepped). t.shared) (step-illegal who s w b)
+      go (Err ForeignWord) (foreign ok b) = ap (λ (t : Stepped). t.shared) (refused_is who s w ok (Err ForeignWord) ((foreign_read w).1 b))
+      go (Err UnsupportedForm) (unsupported ok b k) = ap (λ (t : Stepped). t.shared) (refused_is who s w ok (Err UnsupportedForm) (unread w b k))
+      go (Err LevelTooLow) (low i ok b l) = ap (λ (t : Stepped). t.shared) (low_is who s w ok i b l)
+      go (Err AccessOff) (off i ok b l a) = ap (λ (t : Stepped). t.shared) (off_is who s w ok i b l a)
+      go (Err NotOwned) (not_owned i ok b l a m) = ap (λ (t : Stepped). t.shared) (barred_is who s w ok i b l a m)
+      go (Ok tt) (done i ok b l a m) = absurd (h (given_reply (Ok tt) (done i ok b l a m)))
+      go (Err ImageCut) none = elim none [ ]
+      go (Err NotAllowed) none = elim none [ ]
+      go (Err TrailingBytes) none = elim none [ ]
+      go (Err BufferTooSmall) none = elim none [ ]
+      go (Err FieldPastRange) none = elim none [ ]
+      go (Err BadWalkRegisters) none = elim none [ ]
+      go (Err ListTooShort) none = elim none [ ]
+      go (Err BudgetSpent) none = elim none [ ]
+      go (Err NotMonotonic) none = elim none [ ]
 
-  module _ (i : Instruction) (ours : decode_of w ≡ Ours i) (accepted : (step_of who s w).reply ≡ Done) where
+  module _ (i : Instruction) (ours : decode_of w ≡ Ok i) (accepted : (step_of who s w).reply ≡ Ok tt) where
     abbrev has : State
     has = state_for who s
 
     accepted_is : (may_name who (registers_of i) ≡ true) × ((step_of who s w).shared ≡ shared_after who s (execute_of has i))
-    accepted_is = go Done ((exactly_when Done).0 accepted) refl
+    accepted_is = go (Ok tt) ((exactly_when (Ok tt)).0 accepted) refl
       where
-        go : (r : Reply) → Given who s w r → r ≡ Done → (may_name who (registers_of i) ≡ true) × ((step_of who s w).shared ≡ shared_after who s (execute_of has i))
-        go IllegalState (illegal b) z = let n : ◌≡◌ {A = ℕ} 0 1 = cc in absurd (omega arith)
-        go ForeignWord (foreign ok b) z = let n : ◌≡◌ {A = ℕ} 0 1 = cc in absurd (omega arith)
-        go UnsupportedForm (unsupported ok b k) z = let n : ◌≡◌ {A = ℕ} 0 1 = cc in absurd (omega arith)
-        go LevelTooLow (low j ok b l) z = let n : ◌≡◌ {A = ℕ} 0 1 = cc in absurd (omega arith)
-        go AccessOff (off j ok b l a) z = let n : ◌≡◌ {A = ℕ} 0 1 = cc in absurd (omega arith)
-        go NotOwned (not_owned j ok b l a m) z = let n : ◌≡◌ {A = ℕ} 0 1 = cc in absurd (omega arith)
-        go Done (done j ok b l a m) z =
+        go : (r : Reply) → Given who s w r → r ≡ Ok tt → (may_name who (registers_of i) ≡ true) × ((step_of who s w).shared ≡ shared_after who s (execute_of has i))
+        go (Err IllegalState) (illegal b) z = let n : ◌≡◌ {A = ℕ} 0 1 = cc in absurd (omega arith)
+        go (Err ForeignWord) (foreign ok b) z = let n : ◌≡◌ {A = ℕ} 0 1 = cc in absurd (omega arith)
+        go (Err UnsupportedForm) (unsupported ok b k) z = let n : ◌≡◌ {A = ℕ} 0 1 = cc in absurd (omega arith)
+        go (Err LevelTooLow) (low j ok b l) z = let n : ◌≡◌ {A = ℕ} 0 1 = cc in absurd (omega arith)
+        go (Err AccessOff) (off j ok b l a) z = let n : ◌≡◌ {A = ℕ} 0 1 = cc in absurd (omega arith)
+        go (Err NotOwned) (not_owned j ok b l a m) z = let n : ◌≡◌ {A = ℕ} 0 1 = cc in absurd (omega arith)
+        go (Ok tt) (done j ok b l a m) z =
             let k : j ≡ i = cc in (
               sym (ap (λ (x : Instruction). may_name who (registers_of x)) k) ∙ m,
               ap (λ (t : Stepped). t.shared) (done_is who s w ok j b l a m) ∙ ap (λ (x : Instruction). shared_after who s (execute_of has x)) k,
             )
-        go ImageCut none z = elim none [ ]
-        go NotAllowed none z = elim none [ ]
-        go TrailingBytes none z = elim none [ ]
-        go BufferTooSmall none z = elim none [ ]
-        go FieldPastRange none z = elim none [ ]
-        go BadWalkRegisters none z = elim none [ ]
-        go ListTooShort none z = elim none [ ]
-        go BudgetSpent none z = elim none [ ]
-        go NotMonotonic none z = elim none [ ]
+        go (Err ImageCut) none z = elim none [ ]
+        go (Err NotAllowed) none z = elim none [ ]
+        go (Err TrailingBytes) none z = elim none [ ]
+        go (Err BufferTooSmall) none z = elim none [ ]
+        go (Err FieldPastRange) none z = elim none [ ]
+        go (Err BadWalkRegisters) none z = elim none [ ]
+        go (Err ListTooShort) none z = elim none [ ]
+        go (Err BudgetSpent) none z = elim none [ ]
+        go (Err NotMonotonic) none z = elim none [ ]
 
     -- all that it names is the kernel's
     pub accepted_owned : may_name who (registers_of i) ≡ true
@@ -235,7 +234,7 @@ module _ (c : Condition) (u four : Bool) (pnd : ℕ) (size : Size) (rn rm : ℕ)
       go false e = e
 
   -- whatever the state, the first kernel's step of such a word is refused
-  pub counter-refused : (s : Shared) (w : ℕ) → w < 2 ^ 32 → decode_of w ≡ Ours (While c u (Counter four pnd) size rn rm) → (step_of First s w).reply ≡ Done → ⊥
+  pub counter-refused : (s : Shared) (w : ℕ) → w < 2 ^ 32 → decode_of w ≡ Ok (While c u (Counter four pnd) size rn rm) → (step_of First s w).reply ≡ Ok tt → ⊥
   counter-refused s w small ours accepted = never (accepted_owned First s w counting ours accepted) (counter-not-first (written_read w counting small ours).0)
 
 -- ---- a walk
@@ -243,12 +242,12 @@ module _ (c : Condition) (u four : Bool) (pnd : ℕ) (size : Size) (rn rm : ℕ)
 module _ (who : Kernel) (size n m d k : ℕ) (s : Shared) where
   -- 4, 10, 2, 3, 15, 11
   pub walk_order : (places : ℕ) → refusal_of who size n m d k s places
-      ≡ pick (not (legal s.state)) IllegalState
-      (pick (bad_registers size n m d k) BadWalkRegisters
-      (pick (eqb s.state.level 0) LevelTooLow
-      (pick (not s.state.access) AccessOff
-      (pick (not (may_walk who n m d k)) NotOwned
-      (pick (ltb places (distance n m s.state)) ListTooShort Done)))))
+      ≡ pick (not (legal s.state)) (Err IllegalState)
+      (pick (bad_registers size n m d k) (Err BadWalkRegisters)
+      (pick (eqb s.state.level 0) (Err LevelTooLow)
+      (pick (not s.state.access) (Err AccessOff)
+      (pick (not (may_walk who n m d k)) (Err NotOwned)
+      (pick (ltb places (distance n m s.state)) (Err ListTooShort) (Ok tt))))))
   unfolding refusal_of
   walk_order places = refl
 

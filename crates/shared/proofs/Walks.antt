@@ -1,5 +1,7 @@
 -- A kernel's walk is refused by nothing exactly where the premises of demand 3 hold, and each of its replies is given exactly when the table says, at every budget.
 -- Assumes nothing but what the types of its arguments say.
+use Rattle.replies.specs.Reply.{Reply, is_done}
+use Rattle.std.specs.Prelude.{Ok, Err}
 use mathlib.Core.Bool.{Bool, true, false, not, ◌&&◌, ◌||◌}
 use mathlib.Core.List.{List}
 use mathlib.Core.Logic.{◌↔◌}
@@ -12,9 +14,7 @@ use lib.ListN.{length}
 use borrow.Author.Tests.{lt-ltb, le-leb, lt-leb, eq-eqb, ne_eqb}
 use Rattle.bits.specs.Choice.{pick}
 use Rattle.bits.proofs.Searches.{never}
-use Rattle.replies.specs.declared.Reply.{Reply}
-use Rattle.replies.specs.declared.Reply.TheVariants.{Done, LevelTooLow, AccessOff, IllegalState, BadWalkRegisters, ListTooShort, BudgetSpent, NotOwned, BufferTooSmall, FieldPastRange, ForeignWord, ImageCut, NotAllowed, NotMonotonic, TrailingBytes, UnsupportedForm}
-use Rattle.replies.specs.Reply.{is_done}
+use Rattle.replies.specs.declared.Refusal.TheVariants.{LevelTooLow, AccessOff, IllegalState, BadWalkRegisters, ListTooShort, BudgetSpent, NotOwned, BufferTooSmall, FieldPastRange, ForeignWord, ImageCut, NotAllowed, NotMonotonic, TrailingBytes, UnsupportedForm}
 use Rattle.registers.specs.Legal.{legal}
 use Rattle.registers.specs.State.{with_flags}
 use Rattle.words.specs.Words.{size_of}
@@ -90,15 +90,15 @@ module _ (who : Kernel) (size n m d k : ℕ) (s : Shared) (places : ℕ) where
   )
 
   -- the premises of demand 3 for a kernel hold exactly if its walk is refused by none of 4, 10, 2, 3, 15 and 11
-  pub accepted_when : Accepted who size n m d k s places ↔ (refusal_of who size n m d k s places ≡ Done)
+  pub accepted_when : Accepted who size n m d k s places ↔ (refusal_of who size n m d k s places ≡ Ok tt)
   accepted_when = (there, λ e. back e (may_walk who n m d k) refl)
     where
-      there : Accepted who size n m d k s places → refusal_of who size n m d k s places ≡ Done
+      there : Accepted who size n m d k s places → refusal_of who size n m d k s places ≡ Ok tt
       there a =
           refusal_may who size n m d k s ((owned_walks who size n m d k a.ordinary.registers).0 a.owned) places
           ∙ (Ordinary.accepted_when size n m d k (state_for who s) places).0 (with_flags_lem.0 a.ordinary)
 
-      back : refusal_of who size n m d k s places ≡ Done → (b : Bool) → may_walk who n m d k ≡ b → Accepted who size n m d k s places
+      back : refusal_of who size n m d k s places ≡ Ok tt → (b : Bool) → may_walk who n m d k ≡ b → Accepted who size n m d k s places
       back e true h =
           let a = with_flags_lem.1 ((Ordinary.accepted_when size n m d k (state_for who s) places).1 (sym (refusal_may who size n m d k s h places) ∙ e)) in
           record { ordinary = a; owned = (owned_walks who size n m d k a.registers).1 h }
@@ -108,19 +108,19 @@ module _ (who : Kernel) (size n m d k : ℕ) (s : Shared) (places : ℕ) where
 
 module _ (who : Kernel) (size n m d k : ℕ) (s : Shared) (places : ℕ) where
   abbrev past_15 : Reply
-  past_15 = pick (ltb places (distance n m s.state)) ListTooShort Done
+  past_15 = pick (ltb places (distance n m s.state)) (Err ListTooShort) (Ok tt)
 
   abbrev past_3 : Reply
-  past_3 = pick (not (may_walk who n m d k)) NotOwned past_15
+  past_3 = pick (not (may_walk who n m d k)) (Err NotOwned) past_15
 
   abbrev past_2 : Reply
-  past_2 = pick (not s.state.access) AccessOff past_3
+  past_2 = pick (not s.state.access) (Err AccessOff) past_3
 
   abbrev past_10 : Reply
-  past_10 = pick (eqb s.state.level 0) LevelTooLow past_2
+  past_10 = pick (eqb s.state.level 0) (Err LevelTooLow) past_2
 
   module _ (ok : legal s.state ≡ true) where
-    refused_10 : bad_registers size n m d k ≡ true → refusal_of who size n m d k s places ≡ BadWalkRegisters
+    refused_10 : bad_registers size n m d k ≡ true → refusal_of who size n m d k s places ≡ Err BadWalkRegisters
     unfolding refusal_of
     refused_10 h = pick_no _ _ _ (ap not ok) ∙ pick_yes _ _ _ h
 
@@ -129,24 +129,24 @@ module _ (who : Kernel) (size n m d k : ℕ) (s : Shared) (places : ℕ) where
       unfolding refusal_of
       after_10 = pick_no _ _ _ (ap not ok) ∙ pick_no _ _ _ ((registers_good size n m d k).0 g)
 
-      refused_2 : s.state.level ≡ 0 → refusal_of who size n m d k s places ≡ LevelTooLow
+      refused_2 : s.state.level ≡ 0 → refusal_of who size n m d k s places ≡ Err LevelTooLow
       refused_2 h = after_10 ∙ pick_yes _ _ _ (eq-eqb s.state.level 0 h)
 
       module _ (present : 0 < s.state.level) where
         after_2 : refusal_of who size n m d k s places ≡ past_2
         after_2 = after_10 ∙ pick_no _ _ _ (ne_eqb s.state.level 0 (λ e. omega arith))
 
-        refused_3 : s.state.access ≡ false → refusal_of who size n m d k s places ≡ AccessOff
+        refused_3 : s.state.access ≡ false → refusal_of who size n m d k s places ≡ Err AccessOff
         refused_3 h = after_2 ∙ pick_yes _ _ _ (ap not h)
 
         module _ (on : s.state.access ≡ true) where
           after_3 : refusal_of who size n m d k s places ≡ past_3
           after_3 = after_2 ∙ pick_no _ _ _ (ap not on)
 
-          refused_15 : (Owned who n m d k → ⊥) → refusal_of who size n m d k s places ≡ NotOwned
+          refused_15 : (Owned who n m d k → ⊥) → refusal_of who size n m d k s places ≡ Err NotOwned
           refused_15 h = after_3 ∙ pick_yes _ _ _ (ap not (unowned who size n m d k g h))
 
-          refused_11 : Owned who n m d k → places < distance n m s.state → refusal_of who size n m d k s places ≡ ListTooShort
+          refused_11 : Owned who n m d k → places < distance n m s.state → refusal_of who size n m d k s places ≡ Err ListTooShort
           refused_11 o h = after_3 ∙ pick_no _ _ _ (ap not ((owned_walks who size n m d k g).0 o)) ∙ pick_yes _ _ _ (lt-ltb places (distance n m s.state) h)
 
 -- ---- exactly when
@@ -169,22 +169,22 @@ module _ (who : Kernel) (size n m d k budget : ℕ) (s : Shared) (l : List ℕ) 
   -- a reply that the table gives is the walk's
   given_reply : (r : Reply) → Given who size n m d k budget s (length l) r → (walk_of who size n m d k budget s l).reply ≡ r
   unfolding state_for with_flags
-  given_reply IllegalState (illegal h) = refused IllegalState (walk-illegal who size n m d k s h (length l)) refl
-  given_reply BadWalkRegisters (bad ok h) = refused BadWalkRegisters (refused_10 who size n m d k s (length l) ok h) refl
-  given_reply LevelTooLow (low ok g h) = refused LevelTooLow (refused_2 who size n m d k s (length l) ok g h) refl
-  given_reply AccessOff (off ok g v h) = refused AccessOff (refused_3 who size n m d k s (length l) ok g v h) refl
-  given_reply NotOwned (not_owned ok g v on h) = refused NotOwned (refused_15 who size n m d k s (length l) ok g v on h) refl
-  given_reply ListTooShort (short ok g v on o h) = refused ListTooShort (refused_11 who size n m d k s (length l) ok g v on o h) refl
-  given_reply BudgetSpent (spent a h) = ordinary a BudgetSpent (Row-spent ((with_flags_lem who size n m d k s (length l)).0 a.ordinary) h)
-  given_reply Done (done a h) = ordinary a Done (Row-done ((with_flags_lem who size n m d k s (length l)).0 a.ordinary) h)
-  given_reply ForeignWord none = elim none [ ]
-  given_reply ImageCut none = elim none [ ]
-  given_reply NotAllowed none = elim none [ ]
-  given_reply TrailingBytes none = elim none [ ]
-  given_reply BufferTooSmall none = elim none [ ]
-  given_reply FieldPastRange none = elim none [ ]
-  given_reply UnsupportedForm none = elim none [ ]
-  given_reply NotMonotonic none = elim none [ ]
+  given_reply (Err IllegalState) (illegal h) = refused (Err IllegalState) (walk-illegal who size n m d k s h (length l)) refl
+  given_reply (Err BadWalkRegisters) (bad ok h) = refused (Err BadWalkRegisters) (refused_10 who size n m d k s (length l) ok h) refl
+  given_reply (Err LevelTooLow) (low ok g h) = refused (Err LevelTooLow) (refused_2 who size n m d k s (length l) ok g h) refl
+  given_reply (Err AccessOff) (off ok g v h) = refused (Err AccessOff) (refused_3 who size n m d k s (length l) ok g v h) refl
+  given_reply (Err NotOwned) (not_owned ok g v on h) = refused (Err NotOwned) (refused_15 who size n m d k s (length l) ok g v on h) refl
+  given_reply (Err ListTooShort) (short ok g v on o h) = refused (Err ListTooShort) (refused_11 who size n m d k s (length l) ok g v on o h) refl
+  given_reply (Err BudgetSpent) (spent a h) = ordinary a (Err BudgetSpent) (Row-spent ((with_flags_lem who size n m d k s (length l)).0 a.ordinary) h)
+  given_reply (Ok tt) (done a h) = ordinary a (Ok tt) (Row-done ((with_flags_lem who size n m d k s (length l)).0 a.ordinary) h)
+  given_reply (Err ForeignWord) none = elim none [ ]
+  given_reply (Err ImageCut) none = elim none [ ]
+  given_reply (Err NotAllowed) none = elim none [ ]
+  given_reply (Err TrailingBytes) none = elim none [ ]
+  given_reply (Err BufferTooSmall) none = elim none [ ]
+  given_reply (Err FieldPastRange) none = elim none [ ]
+  given_reply (Err UnsupportedForm) none = elim none [ ]
+  given_reply (Err NotMonotonic) none = elim none [ ]
 
   -- and one of its rows applies
   row : (r : Reply) × Given who size n m d k budget s (length l) r
@@ -193,39 +193,39 @@ module _ (who : Kernel) (size n m d k budget : ℕ) (s : Shared) (l : List ℕ) 
       by_budget : Accepted who size n m d k s (length l) → (r : Reply) × Given who size n m d k budget s (length l) r
       by_budget a =
           elim (dec_lt budget (needed (size_of size) n m s.state)) [
-            | yes h ↦ (BudgetSpent, spent a h)
-            | no h ↦ (Done, done a (omega arith))
+            | yes h ↦ ((Err BudgetSpent), spent a h)
+            | no h ↦ ((Ok tt), done a (omega arith))
           ]
 
       by_room : legal s.state ≡ true → GoodRegisters size n m d k → 0 < s.state.level → s.state.access ≡ true → Owned who n m d k → (r : Reply) × Given who size n m d k budget s (length l) r
       by_room ok g v on o =
           elim (dec_lt (length l) (distance n m s.state)) [
-            | yes h ↦ (ListTooShort, short ok g v on o h)
+            | yes h ↦ ((Err ListTooShort), short ok g v on o h)
             | no h ↦ by_budget (record { ordinary = record { legal_is = ok; registers = g; present = v; on = on; room = omega arith }; owned = o })
           ]
 
       by_owner : legal s.state ≡ true → GoodRegisters size n m d k → 0 < s.state.level → s.state.access ≡ true → (b : Bool) → may_walk who n m d k ≡ b → (r : Reply) × Given who size n m d k budget s (length l) r
       by_owner ok g v on true h = by_room ok g v on ((owned_walks who size n m d k g).1 h)
-      by_owner ok g v on false h = (NotOwned, not_owned ok g v on (λ o. never ((owned_walks who size n m d k g).0 o) h))
+      by_owner ok g v on false h = ((Err NotOwned), not_owned ok g v on (λ o. never ((owned_walks who size n m d k g).0 o) h))
 
       by_access : legal s.state ≡ true → GoodRegisters size n m d k → 0 < s.state.level → (b : Bool) → s.state.access ≡ b → (r : Reply) × Given who size n m d k budget s (length l) r
       by_access ok g v true on = by_owner ok g v on (may_walk who n m d k) refl
-      by_access ok g v false h = (AccessOff, off ok g v h)
+      by_access ok g v false h = ((Err AccessOff), off ok g v h)
 
       by_level : legal s.state ≡ true → GoodRegisters size n m d k → (r : Reply) × Given who size n m d k budget s (length l) r
       by_level ok g =
           elim (dec_lt 0 s.state.level) [
             | yes v ↦ by_access ok g v s.state.access refl
-            | no h ↦ (LevelTooLow, low ok g (omega arith))
+            | no h ↦ ((Err LevelTooLow), low ok g (omega arith))
           ]
 
       by_registers : legal s.state ≡ true → (b : Bool) → bad_registers size n m d k ≡ b → (r : Reply) × Given who size n m d k budget s (length l) r
-      by_registers ok true h = (BadWalkRegisters, bad ok h)
+      by_registers ok true h = ((Err BadWalkRegisters), bad ok h)
       by_registers ok false h = by_level ok ((registers_good size n m d k).1 h)
 
       by_legality : (b : Bool) → legal s.state ≡ b → (r : Reply) × Given who size n m d k budget s (length l) r
       by_legality true ok = by_registers ok (bad_registers size n m d k) refl
-      by_legality false h = (IllegalState, illegal h)
+      by_legality false h = ((Err IllegalState), illegal h)
 
   pub walk_exactly_when : (r : Reply) → ((walk_of who size n m d k budget s l).reply ≡ r) ↔ Given who size n m d k budget s (length l) r
   walk_exactly_when r = (there, given_reply r)

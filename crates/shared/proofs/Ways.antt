@@ -1,4 +1,8 @@
 -- By way of the ordinary step and walk, as the code goes: those of the state with the kernel's flags; and where a register is not the kernel's, 15 for a reply that stands after it. Assumes nothing.
+use Rattle.std.specs.Prelude.{Result}
+use Rattle.replies.specs.declared.Refusal.{Refusal}
+use Rattle.replies.specs.Reply.{Reply, number_of, is_done}
+use Rattle.std.specs.Prelude.{Ok, Err}
 use mathlib.Core.Bool.{Bool, true, false, not}
 use mathlib.Core.List.{List}
 use mathlib.Core.Path.{◌≡◌, refl, sym, ap, ap₂, ◌∙◌}
@@ -9,16 +13,12 @@ use lib.ListN.{length}
 use borrow.Author.Tests.{eqb-true}
 use Rattle.bits.specs.Choice.{pick}
 use Rattle.bits.proofs.Searches.{never}
-use Rattle.replies.specs.declared.Reply.{Reply}
-use Rattle.replies.specs.declared.Reply.TheVariants.{Done, LevelTooLow, AccessOff, IllegalState, BadWalkRegisters, ListTooShort, NotMonotonic, NotOwned}
-use Rattle.replies.specs.Reply.{number_of, is_done}
+use Rattle.replies.specs.declared.Refusal.TheVariants.{LevelTooLow, AccessOff, IllegalState, BadWalkRegisters, ListTooShort, NotMonotonic, NotOwned}
 use Rattle.replies.proofs.Replies.{number_done}
 use Rattle.registers.specs.declared.State.{State}
 use Rattle.registers.specs.Legal.{legal}
 use Rattle.registers.specs.State.{with_flags}
 use Rattle.registers.proofs.Legality.{with_flags-legal}
-use Rattle.words.specs.declared.Decoded.{Decoded}
-use Rattle.words.specs.declared.Decoded.TheVariants.{Ours, Refused}
 use Rattle.words.specs.declared.Instruction.{Instruction}
 use Rattle.words.specs.Words.{decode_of, level_of}
 use Rattle.instructions.specs.declared.operands.Values.{Values}
@@ -63,20 +63,20 @@ for_legal who s = with_flags-legal s.state (flags_for who s)
 
 -- ---- replies where a register is not the kernel's
 
-pub barred_15 : (r : Reply) (t : Bool) → t ≡ stands_after r → t ≡ true → NotOwned ≡ barred r
-barred_15 r t e h = sym (ap (λ (b : Bool). pick b NotOwned r) (sym e ∙ h))
+pub barred_15 : (r : Reply) (t : Bool) → t ≡ stands_after r → t ≡ true → (Err NotOwned) ≡ barred r
+barred_15 r t e h = sym (ap (λ (b : Bool). pick b (Err NotOwned) r) (sym e ∙ h))
 
 pub barred_before : (r : Reply) (t : Bool) → t ≡ stands_after r → t ≡ false → r ≡ barred r
-barred_before r t e h = sym (ap (λ (b : Bool). pick b NotOwned r) (sym e ∙ h))
+barred_before r t e h = sym (ap (λ (b : Bool). pick b (Err NotOwned) r) (sym e ∙ h))
 
 -- it is never 0
-pub barred_done : (r : Reply) → barred r ≡ Done → ⊥
+pub barred_done : (r : Reply) → barred r ≡ Ok tt → ⊥
 unfolding stands_after
 barred_done r e = go (stands_after r) refl
   where
     go : (b : Bool) → stands_after r ≡ b → ⊥
     go true h = let z : ◌≡◌ {A = ℕ} 15 0 = ap number_of (barred_15 r true (sym h) refl ∙ e) in omega arith
-    go false h = let d : r ≡ Done = barred_before r false (sym h) refl ∙ e in never (ap stands_after d) h
+    go false h = let d : r ≡ (Ok tt) = barred_before r false (sym h) refl ∙ e in never (ap stands_after d) h
 
 -- WRFFR touches FFR, which no kernel may name: what a kernel may name is refused for no value
 takes : (who : Kernel) (i : Instruction) (v : Values) → may_name who (registers_of i) ≡ true → accepts i v ≡ true
@@ -105,25 +105,25 @@ module _ (who : Kernel) (s : Shared) where
 
   -- 2, 3, 15 and 0 of a kernel, and 2, 3, 14 and 0 of the ordinary step
   abbrev kernels : (low on may : Bool) → Reply
-  kernels low on may = pick low LevelTooLow (pick (not on) AccessOff (pick (not may) NotOwned Done))
+  kernels low on may = pick low (Err LevelTooLow) (pick (not on) (Err AccessOff) (pick (not may) (Err NotOwned) (Ok tt)))
 
   abbrev machines : (low on monotone : Bool) → Reply
-  machines low on monotone = pick low LevelTooLow (pick on (pick monotone Done NotMonotonic) AccessOff)
+  machines low on monotone = pick low (Err LevelTooLow) (pick on (pick monotone (Ok tt) (Err NotMonotonic)) (Err AccessOff))
 
   abbrev answer : Instruction → Reply → Stepped
   answer i r = record { reply = r; shared = pick (is_done r) (shared_after who s (execute_of has i)) s }
 
-  after_may : (d : Decoded) → may_step who d ≡ true → after_word who s d ≡ stepped_for (Machine.after_word has d)
+  after_may : (d : Result Instruction Refusal) → may_step who d ≡ true → after_word who s d ≡ stepped_for (Machine.after_word has d)
   unfolding may_step after_word Machine.after_word state_for with_flags
-  after_may (Refused r) h = stays r
-  after_may (Ours i) h =
+  after_may (Err r) h = stays r
+  after_may (Ok i) h =
       let v = values_of has (registers_of i) in
       go (ltb s.state.level (level_of i)) s.state.access (may_name who (registers_of i)) (accepts i v) h (takes who i v h)
     where
       go : (low on may monotone : Bool) → may ≡ true → monotone ≡ true
           → answer i (kernels low on may) ≡ stepped_for (Machine.answered (machines low on monotone) (pick (is_done (machines low on monotone)) (execute_of has i) has))
-      go true on may monotone m t = stays LevelTooLow
-      go false false may monotone m t = stays AccessOff
+      go true on may monotone m t = stays (Err LevelTooLow)
+      go false false may monotone m t = stays (Err AccessOff)
       go false true true true m t = refl
       go false true true false m t = never t refl
       go false true false monotone m t = never m refl
@@ -132,10 +132,10 @@ module _ (who : Kernel) (s : Shared) where
   abbrev barring : Machine'.Stepped → Stepped
   barring t = record { reply = barred t.reply; shared = s }
 
-  after-not : (d : Decoded) → may_step who d ≡ false → after_word who s d ≡ barring (Machine.after_word has d)
+  after-not : (d : Result Instruction Refusal) → may_step who d ≡ false → after_word who s d ≡ barring (Machine.after_word has d)
   unfolding may_step stands_after after_word Machine.after_word state_for with_flags
-  after-not (Refused r) h = never refl h
-  after-not (Ours i) h = go (ltb s.state.level (level_of i)) s.state.access (may_name who (registers_of i)) (accepts i (values_of has (registers_of i))) h
+  after-not (Err r) h = never refl h
+  after-not (Ok i) h = go (ltb s.state.level (level_of i)) s.state.access (may_name who (registers_of i)) (accepts i (values_of has (registers_of i))) h
     where
       go : (low on may monotone : Bool) → may ≡ false → answer i (kernels low on may) ≡ barring (Machine.answered (machines low on monotone) has)
       go true on may monotone m = refl
@@ -149,11 +149,11 @@ module _ (who : Kernel) (s : Shared) where
     unfolding step_of
     step_after h = pick_yes _ _ _ h
 
-    pub step-illegal : legal s.state ≡ false → step_of who s w ≡ record { reply = IllegalState; shared = s }
+    pub step-illegal : legal s.state ≡ false → step_of who s w ≡ record { reply = Err IllegalState; shared = s }
     unfolding step_of
     step-illegal h = pick_no _ _ _ h
 
-    illegal : legal s.state ≡ false → Machine.step_of has w ≡ Machine.answered IllegalState has
+    illegal : legal s.state ≡ false → Machine.step_of has w ≡ Machine.answered (Err IllegalState) has
     unfolding Machine.step_of
     illegal h = pick_no _ _ _ (for_legal who s ∙ h)
 
@@ -162,7 +162,7 @@ module _ (who : Kernel) (s : Shared) where
       where
         go : (b : Bool) → legal s.state ≡ b → step_of who s w ≡ stepped_for (Machine.step_of has w)
         go true h = step_after h ∙ after_may (decode_of w) m ∙ ap stepped_for (sym (step-legal has w (for_legal who s ∙ h)))
-        go false h = step-illegal h ∙ stays IllegalState ∙ ap stepped_for (sym (illegal h))
+        go false h = step-illegal h ∙ stays (Err IllegalState) ∙ ap stepped_for (sym (illegal h))
 
     pub step-not : may_step who (decode_of w) ≡ false → step_of who s w ≡ record { reply = barred (Machine.step_of has w).reply; shared = s }
     unfolding stands_after
@@ -178,12 +178,12 @@ module _ (who : Kernel) (size n m d k : ℕ) (s : Shared) where
   -- 4, 10, 2, 3, 15 and 11, of a state and an owner of which it is known whether they are in order
   abbrev order : ℕ → Bool → Bool → Reply
   order places ok may =
-      pick (not ok) IllegalState
-      (pick (Walk.bad_registers size n m d k) BadWalkRegisters
-      (pick (eqb s.state.level 0) LevelTooLow
-      (pick (not s.state.access) AccessOff
-      (pick (not may) NotOwned
-      (pick (ltb places (Walk.distance n m s.state)) ListTooShort Done)))))
+      pick (not ok) (Err IllegalState)
+      (pick (Walk.bad_registers size n m d k) (Err BadWalkRegisters)
+      (pick (eqb s.state.level 0) (Err LevelTooLow)
+      (pick (not s.state.access) (Err AccessOff)
+      (pick (not may) (Err NotOwned)
+      (pick (ltb places (Walk.distance n m s.state)) (Err ListTooShort) (Ok tt))))))
 
   pub refusal_may : may_walk who n m d k ≡ true → (places : ℕ) → refusal_of who size n m d k s places ≡ Walk.refusal_of size n m d k (state_for who s) places
   unfolding refusal_of Walk.refusal_of state_for with_flags
@@ -193,7 +193,7 @@ module _ (who : Kernel) (size n m d k : ℕ) (s : Shared) where
   unfolding refusal_of state_for with_flags
   refusal-not h places = ap₂ (order places) (sym (for_legal who s)) h ∙ sym (barred-refusal size n m d k places (state_for who s))
 
-  pub walk-illegal : legal s.state ≡ false → (places : ℕ) → refusal_of who size n m d k s places ≡ IllegalState
+  pub walk-illegal : legal s.state ≡ false → (places : ℕ) → refusal_of who size n m d k s places ≡ Err IllegalState
   unfolding refusal_of
   walk-illegal h places = pick_yes _ _ _ (ap not h)
 

@@ -1,7 +1,7 @@
 -- Two budgets for one walk of a kernel: the larger one only adds. The other kernel's registers and flags are in the shared state that is passed through.
+use Rattle.std.specs.Prelude.{Ok}
 use Rattle.std.specs.Prelude.{ℕ, ◌+◌, ◌-◌, ◌≤◌, List, ◌++◌, ◌≡◌, length, take, drop}
 use Rattle.predicates.specs.Predicate.{elements}
-use Rattle.replies.specs.declared.Reply.TheVariants.{Done}
 use Rattle.registers.specs.State.{read_x}
 use Rattle.words.specs.Words.{size_of}
 use Rattle.walk.specs.Demand.{needed}
@@ -39,7 +39,7 @@ pub record KernelResumes (who : Kernel) (size n m d k budget : ℕ) (s : Shared)
   pub xn : read_x r.shared.state n ≡ read_x s.state n + grown n s.state r.shared.state
   pub stopped : Stopped (distance n m s.state) (elements s.state.vl (size_of size)) budget (grown n s.state r.shared.state) r.visited
   -- from there, with the list's part from that place on, nothing refuses a walk of the kernel
-  pub accepted : refusal_of who size n m d k r.shared (length (drop (grown n s.state r.shared.state) after)) ≡ Done
+  pub accepted : refusal_of who size n m d k r.shared (length (drop (grown n s.state r.shared.state) after)) ≡ Ok tt
   -- if its budget suffices, both together leave the list of a single walk, and it leaves that walk's shared state
   pub list : (b c : ℕ) → needed (size_of size) n m r.shared.state ≤ b → needed (size_of size) n m s.state ≤ c
       → take (grown n s.state r.shared.state) after ++ list_of who size n m d k b r.shared (drop (grown n s.state r.shared.state) after) ≡ list_of who size n m d k c s before

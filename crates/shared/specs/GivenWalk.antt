@@ -1,7 +1,8 @@
 -- When a walk of a kernel is refused by none of 4, 10, 2, 3, 15 and 11, and when it gives each reply.
+use Rattle.replies.specs.Reply.{Reply}
+use Rattle.std.specs.Prelude.{Ok, Err}
 use Rattle.std.specs.Prelude.{ℕ, ◌≤◌, ◌<◌, true, false, ◌||◌, ◌≡◌, eqb}
-use Rattle.replies.specs.declared.Reply.{Reply}
-use Rattle.replies.specs.declared.Reply.TheVariants.{Done, LevelTooLow, AccessOff, IllegalState, BadWalkRegisters, ListTooShort, BudgetSpent, NotOwned}
+use Rattle.replies.specs.declared.Refusal.TheVariants.{LevelTooLow, AccessOff, IllegalState, BadWalkRegisters, ListTooShort, BudgetSpent, NotOwned}
 use Rattle.registers.specs.Legal.{legal}
 use Rattle.words.specs.Words.{size_of}
 use Rattle.walk.specs.Demand.{needed}
@@ -26,11 +27,11 @@ pub record Accepted (who : Kernel) (size n m d k : ℕ) (s : Shared) (places : �
 
 -- rows 4, 10, 2, 3, 15, 11, 12 and 0 of the table of replies, in the order of a walk
 pub data Given (who : Kernel) (size n m d k budget : ℕ) (s : Shared) (places : ℕ) : Reply → Type 0 where
-  illegal : legal s.state ≡ false → Given who size n m d k budget s places IllegalState
-  bad : legal s.state ≡ true → bad_registers size n m d k ≡ true → Given who size n m d k budget s places BadWalkRegisters
-  low : legal s.state ≡ true → GoodRegisters size n m d k → s.state.level ≡ 0 → Given who size n m d k budget s places LevelTooLow
-  off : legal s.state ≡ true → GoodRegisters size n m d k → 0 < s.state.level → s.state.access ≡ false → Given who size n m d k budget s places AccessOff
-  not_owned : legal s.state ≡ true → GoodRegisters size n m d k → 0 < s.state.level → s.state.access ≡ true → (Owned who n m d k → ⊥) → Given who size n m d k budget s places NotOwned
-  short : legal s.state ≡ true → GoodRegisters size n m d k → 0 < s.state.level → s.state.access ≡ true → Owned who n m d k → places < distance n m s.state → Given who size n m d k budget s places ListTooShort
-  spent : Accepted who size n m d k s places → budget < needed (size_of size) n m s.state → Given who size n m d k budget s places BudgetSpent
-  done : Accepted who size n m d k s places → needed (size_of size) n m s.state ≤ budget → Given who size n m d k budget s places Done
+  illegal : legal s.state ≡ false → Given who size n m d k budget s places (Err IllegalState)
+  bad : legal s.state ≡ true → bad_registers size n m d k ≡ true → Given who size n m d k budget s places (Err BadWalkRegisters)
+  low : legal s.state ≡ true → GoodRegisters size n m d k → s.state.level ≡ 0 → Given who size n m d k budget s places (Err LevelTooLow)
+  off : legal s.state ≡ true → GoodRegisters size n m d k → 0 < s.state.level → s.state.access ≡ false → Given who size n m d k budget s places (Err AccessOff)
+  not_owned : legal s.state ≡ true → GoodRegisters size n m d k → 0 < s.state.level → s.state.access ≡ true → (Owned who n m d k → ⊥) → Given who size n m d k budget s places (Err NotOwned)
+  short : legal s.state ≡ true → GoodRegisters size n m d k → 0 < s.state.level → s.state.access ≡ true → Owned who n m d k → places < distance n m s.state → Given who size n m d k budget s places (Err ListTooShort)
+  spent : Accepted who size n m d k s places → budget < needed (size_of size) n m s.state → Given who size n m d k budget s places (Err BudgetSpent)
+  done : Accepted who size n m d k s places → needed (size_of size) n m s.state ≤ budget → Given who size n m d k budget s places (Ok tt)

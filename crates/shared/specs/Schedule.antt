@@ -1,7 +1,7 @@
 -- Both kernels' steps and walks, in whatever order they come; and what makes two shared states alike to one kernel.
+use Rattle.replies.specs.Reply.{Reply}
 use Rattle.std.specs.Prelude.{ℕ, Bool, true, false, List, [], ◌∷◌, ◌≡◌}
 use Rattle.bits.specs.Choice.{pick}
-use Rattle.replies.specs.declared.Reply.{Reply}
 use Rattle.registers.specs.State.{read_x, read_p}
 use Rattle.shared.specs.declared.Kernel.{Kernel}
 use Rattle.shared.specs.declared.Kernel.TheVariants.{First, Second}

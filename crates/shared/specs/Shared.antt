@@ -1,16 +1,16 @@
 -- A step and a walk of one of two kernels. The replies in their order: of a step 4, 1 or 13, 2, 3, 15, 0; of a walk 4, 10, 2, 3, 15, 11, 12, 0.
 -- What nothing refuses is executed on the state with this kernel's flags.
+use Rattle.std.specs.Prelude.{Result}
+use Rattle.replies.specs.declared.Refusal.{Refusal}
+use Rattle.replies.specs.Reply.{Reply, is_done}
+use Rattle.std.specs.Prelude.{Ok, Err}
 use Rattle.std.specs.Prelude.{ℕ, Bool, true, false, not, List, ltb, eqb, length}
 use Rattle.bits.specs.Choice.{pick}
 use Rattle.predicates.specs.declared.Flags.{Flags}
-use Rattle.replies.specs.declared.Reply.{Reply}
-use Rattle.replies.specs.declared.Reply.TheVariants.{Done, LevelTooLow, AccessOff, IllegalState, BadWalkRegisters, ListTooShort, NotOwned}
-use Rattle.replies.specs.Reply.{is_done}
+use Rattle.replies.specs.declared.Refusal.TheVariants.{LevelTooLow, AccessOff, IllegalState, BadWalkRegisters, ListTooShort, NotOwned}
 use Rattle.registers.specs.declared.State.{State}
 use Rattle.registers.specs.Legal.{legal}
 use Rattle.registers.specs.State.{with_flags}
-use Rattle.words.specs.declared.Decoded.{Decoded}
-use Rattle.words.specs.declared.Decoded.TheVariants.{Ours, Refused}
 use Rattle.words.specs.declared.Instruction.{Instruction}
 use Rattle.words.specs.Words.{size_of, decode_of, level_of}
 use Rattle.instructions.specs.Operands.{registers_of}
@@ -49,32 +49,32 @@ shared_after Second s t = record { state = with_flags t s.state.flags; second = 
 -- the first refusal of 2, 3 and 15 that applies to an instruction, or 0. 14 would stand next: WRFFR, which alone can get it, touches FFR
 abbrev pub reply_of : Kernel → Shared → Instruction → Reply
 reply_of who s i =
-    pick (ltb s.state.level (level_of i)) LevelTooLow
-    (pick (not s.state.access) AccessOff
-    (pick (not (may_name who (registers_of i))) NotOwned Done))
+    pick (ltb s.state.level (level_of i)) (Err LevelTooLow)
+    (pick (not s.state.access) (Err AccessOff)
+    (pick (not (may_name who (registers_of i))) (Err NotOwned) (Ok tt)))
 
 -- before these come 1 and 13, of a word that is no instruction. An instruction that nothing refuses is executed on the state as the kernel has it; a refusal returns what it was given
-unfoldable pub after_word : Kernel → Shared → Decoded → Stepped
-after_word who s (Refused r) = record { reply = r; shared = s }
-after_word who s (Ours i) =
+unfoldable pub after_word : Kernel → Shared → Result Instruction Refusal → Stepped
+after_word who s (Err r) = record { reply = r; shared = s }
+after_word who s (Ok i) =
     let r = reply_of who s i in
     record { reply = r; shared = pick (is_done r) (shared_after who s (execute_of (state_for who s) i)) s }
 
 -- and 4 comes first
 unfoldable pub step_of : Kernel → Shared → ℕ → Stepped
-step_of who s w = pick (legal s.state) (after_word who s (decode_of w)) (record { reply = IllegalState; shared = s })
+step_of who s w = pick (legal s.state) (after_word who s (decode_of w)) (record { reply = Err IllegalState; shared = s })
 
 -- ---- a walk
 
 -- the first refusal of 4, 10, 2 (level 0), 3, 15 and 11 that applies, or 0
 unfoldable pub refusal_of : Kernel → ℕ → ℕ → ℕ → ℕ → ℕ → Shared → ℕ → Reply
 refusal_of who size n m d k s places =
-    pick (not (legal s.state)) IllegalState
-    (pick (bad_registers size n m d k) BadWalkRegisters
-    (pick (eqb s.state.level 0) LevelTooLow
-    (pick (not s.state.access) AccessOff
-    (pick (not (may_walk who n m d k)) NotOwned
-    (pick (ltb places (distance n m s.state)) ListTooShort Done)))))
+    pick (not (legal s.state)) (Err IllegalState)
+    (pick (bad_registers size n m d k) (Err BadWalkRegisters)
+    (pick (eqb s.state.level 0) (Err LevelTooLow)
+    (pick (not s.state.access) (Err AccessOff)
+    (pick (not (may_walk who n m d k)) (Err NotOwned)
+    (pick (ltb places (distance n m s.state)) (Err ListTooShort) (Ok tt))))))
 
 -- the plain walk of the state as the kernel has it
 abbrev pub plain_of : Kernel → ℕ → ℕ → ℕ → ℕ → ℕ → ℕ → Shared → List ℕ → Walk State

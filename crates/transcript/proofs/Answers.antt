@@ -1,4 +1,6 @@
 -- The lines of an image, from what its reading answered. Assumes nothing.
+use Rattle.replies.specs.Reply.{Reply, number_of, is_done}
+use Rattle.std.specs.Prelude.{Ok}
 use mathlib.Core.Bool.{Bool, true, false, not}
 use mathlib.Core.List.{List, [], ◌∷◌}
 use mathlib.Core.Path.{◌≡◌, refl, sym, ap, ap₂, ◌∙◌, subst}
@@ -9,13 +11,10 @@ use native.Mathlib.Omega.{arith}
 use lib.Dec.{eqb}
 use borrow.Author.Tests.{eqb-true, not-true, not-false}
 use Rattle.bits.specs.Choice.{pick}
-use Rattle.replies.specs.declared.Reply.{Reply}
-use Rattle.replies.specs.declared.Reply.TheVariants as R
+use Rattle.replies.specs.declared.Refusal.TheVariants as R
 use Rattle.registers.specs.declared.State.{State}
-use Rattle.replies.specs.Reply.{number_of}
 use Rattle.image.specs.declared.Reading.{Reading}
 use Rattle.octets.specs.Bytes.{value, over, AreBytes}
-use Rattle.replies.specs.Reply.{is_done}
 use Rattle.image.specs.Reading.{image_reply, state_of, words_of, count_of, content_of, words_at, blank, read_of, list_after}
 use Rattle.octets.proofs.Bytes.{length-parts}
 use Rattle.replies.proofs.Replies.{number_done}
@@ -42,7 +41,7 @@ module _ (image list : List ℕ) (r : Reading) (er : r ≡ read_of (length list)
   told = ap (λ (x : Reading). number_of x.reply) er ∙ go (is_done reply) refl
     where
       go : (b : Bool) → is_done reply ≡ b
-          → number_of (pick {A = Reading} b (record { reply = R.Done; state = state_of image; count = count_of (words_at image) }) (record { reply = reply; state = blank; count = 0 })).reply ≡ number_of reply
+          → number_of (pick {A = Reading} b (record { reply = Ok tt; state = state_of image; count = count_of (words_at image) }) (record { reply = reply; state = blank; count = 0 })).reply ≡ number_of reply
       go true e = sym (eqb-true (number_of reply) 0 e)
       go false e = refl
 
@@ -66,12 +65,12 @@ module _ (image list : List ℕ) (r : Reading) (er : r ≡ read_of (length list)
     is_done_lem : is_done reply ≡ true
     is_done_lem = done_is b eb ∙ not-false b h
 
-    none : reply ≡ R.Done
+    none : reply ≡ Ok tt
     none = number_done reply (eqb-true (number_of reply) 0 is_done_lem)
 
-    read_is : r ≡ record { reply = R.Done; state = state_of image; count = count_of (words_at image) }
+    read_is : r ≡ record { reply = Ok tt; state = state_of image; count = count_of (words_at image) }
     unfolding read_of
-    read_is = er ∙ ap (λ (b : Bool). pick {A = Reading} b (record { reply = R.Done; state = state_of image; count = count_of (words_at image) }) (record { reply = reply; state = blank; count = 0 })) is_done_lem
+    read_is = er ∙ ap (λ (b : Bool). pick {A = Reading} b (record { reply = Ok tt; state = state_of image; count = count_of (words_at image) }) (record { reply = reply; state = blank; count = 0 })) is_done_lem
 
     count_is : r.count ≡ length (words_of image)
     unfolding words_of

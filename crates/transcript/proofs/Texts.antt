@@ -1,4 +1,6 @@
 -- With enough room the buffer begins with the lines one after the other, and 86,026 bytes are enough. Assumes nothing.
+use Rattle.replies.specs.Reply.{Reply, number_of, is_done}
+use Rattle.std.specs.Prelude.{Ok, Err}
 use mathlib.Core.Bool.{Bool, true, false}
 use mathlib.Core.List.{List, [], ◌∷◌, ◌++◌, append_assoc, append-nil}
 use mathlib.Core.Path.{◌≡◌, refl, sym, ap, ap₂, ◌∙◌}
@@ -10,13 +12,10 @@ use lib.Seq.{take_at, drop_at, drop-drop, length-take-le}
 use borrow.Author.Tests.{le-leb, eqb-true}
 use Rattle.bits.specs.Choice.{pick}
 use Rattle.predicates.specs.declared.Flags.{Flags}
-use Rattle.replies.specs.declared.Reply.{Reply}
-use Rattle.replies.specs.declared.Reply.TheVariants as R
+use Rattle.replies.specs.declared.Refusal.TheVariants as R
 use Rattle.registers.specs.declared.State.{State}
-use Rattle.replies.specs.Reply.{number_of}
 use Rattle.machine.specs.declared.Stepped.{Stepped}
 use Rattle.machine.specs.Step.{step_of}
-use Rattle.replies.specs.Reply.{is_done}
 use Rattle.image.specs.Reading.{image_reply, state_of, words_of}
 use Rattle.octets.proofs.Bytes.{length-parts}
 use Rattle.replies.proofs.Replies.{number_done}
@@ -95,22 +94,22 @@ whole (l ∷ ls) at buffer h =
 -- ---- how long a text is
 
 reply_small : (r : Reply) → number_of r < 100
-reply_small R.Done = lit< tt
-reply_small R.ForeignWord = lit< tt
-reply_small R.LevelTooLow = lit< tt
-reply_small R.AccessOff = lit< tt
-reply_small R.IllegalState = lit< tt
-reply_small R.ImageCut = lit< tt
-reply_small R.NotAllowed = lit< tt
-reply_small R.TrailingBytes = lit< tt
-reply_small R.BufferTooSmall = lit< tt
-reply_small R.FieldPastRange = lit< tt
-reply_small R.BadWalkRegisters = lit< tt
-reply_small R.ListTooShort = lit< tt
-reply_small R.BudgetSpent = lit< tt
-reply_small R.UnsupportedForm = lit< tt
-reply_small R.NotMonotonic = lit< tt
-reply_small R.NotOwned = lit< tt
+reply_small (Ok tt) = lit< tt
+reply_small (Err R.ForeignWord) = lit< tt
+reply_small (Err R.LevelTooLow) = lit< tt
+reply_small (Err R.AccessOff) = lit< tt
+reply_small (Err R.IllegalState) = lit< tt
+reply_small (Err R.ImageCut) = lit< tt
+reply_small (Err R.NotAllowed) = lit< tt
+reply_small (Err R.TrailingBytes) = lit< tt
+reply_small (Err R.BufferTooSmall) = lit< tt
+reply_small (Err R.FieldPastRange) = lit< tt
+reply_small (Err R.BadWalkRegisters) = lit< tt
+reply_small (Err R.ListTooShort) = lit< tt
+reply_small (Err R.BudgetSpent) = lit< tt
+reply_small (Err R.UnsupportedForm) = lit< tt
+reply_small (Err R.NotMonotonic) = lit< tt
+reply_small (Err R.NotOwned) = lit< tt
 
 end_most : (n : ℕ) → n ≤ 4096 → length (end_line n) ≤ 9
 unfolding end_line

@@ -1,4 +1,5 @@
 -- The lines of words, word by word. Assumes nothing.
+use Rattle.replies.specs.Reply.{Reply, number_of, is_done}
 use mathlib.Core.Bool.{Bool, true, false, not}
 use mathlib.Core.List.{List, [], ◌∷◌}
 use mathlib.Core.Path.{◌≡◌, sym, ap, ap₂, ◌∙◌, subst}
@@ -9,8 +10,6 @@ use lib.Seq.{drop-cons}
 use borrow.Author.Tests.{not-true, not-false}
 use Rattle.bits.specs.Choice.{pick}
 use Rattle.predicates.specs.declared.Flags.{Flags}
-use Rattle.replies.specs.declared.Reply.{Reply}
-use Rattle.replies.specs.Reply.{number_of, is_done}
 use Rattle.registers.specs.declared.State.{State}
 use Rattle.registers.specs.declared.parts.Settings.{Settings}
 use Rattle.registers.specs.Parts.{predicates_of, counts_from, state_at, settings_of}

@@ -1,8 +1,8 @@
 -- What the program writes: lines, and where they stand in a buffer.
+use Rattle.replies.specs.Reply.{number_of, is_done}
 use Rattle.std.specs.Prelude.{ℕ, suc, List, [], ◌∷◌, ◌++◌, length}
 use Rattle.bits.specs.Choice.{pick}
 use Rattle.registers.specs.declared.State.{State}
-use Rattle.replies.specs.Reply.{number_of, is_done}
 use Rattle.machine.specs.Step.{step_of}
 use Rattle.image.specs.Reading.{image_reply, state_of, words_of}
 use Rattle.report.specs.Lines.{word_line, end_line, image_line, after, placed}

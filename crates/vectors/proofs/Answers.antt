@@ -1,4 +1,6 @@
 -- What the library's answers say of a record that is found to agree. Assumes nothing.
+use Rattle.replies.specs.Reply.{Reply, number_of, is_done}
+use Rattle.std.specs.Prelude.{Ok}
 use mathlib.Core.Bool.{Bool, true, false, not, beq}
 use mathlib.Core.List.{List, [], ◌∷◌}
 use mathlib.Core.Path.{◌≡◌, refl, sym, ap, ap₂, ◌∙◌, subst}
@@ -10,10 +12,8 @@ use lib.ListN.{length, take, drop, get_or, replicate, length-drop, length-replic
 use lib.Seq.{ext_get_or, take_at}
 use borrow.Author.Tests.{eq-eqb, not-false}
 use Rattle.bits.specs.Choice.{pick}
-use Rattle.replies.specs.declared.Reply.{Reply}
-use Rattle.replies.specs.declared.Reply.TheVariants as R
+use Rattle.replies.specs.declared.Refusal.TheVariants as R
 use Rattle.registers.specs.declared.State.{State}
-use Rattle.replies.specs.Reply.{number_of, is_done}
 use Rattle.machine.specs.declared.Ran.{Ran}
 use Rattle.machine.specs.Step.{run_of}
 use Rattle.walk.specs.declared.Walked.{Walked}
@@ -48,7 +48,7 @@ chosen {A} f reply a b x e h z = go (is_done reply) refl (ap (λ (y : A). number
 
 module _ (image list : List ℕ) (r : Reading) (er : r ≡ read_of (length list) image) (z : number_of r.reply ≡ 0) where
   abbrev given : Reading
-  given = record { reply = R.Done; state = state_of image; count = count_of (words_at image) }
+  given = record { reply = Ok tt; state = state_of image; count = count_of (words_at image) }
 
   abbrev refused : Reading
   refused = record { reply = image_reply (length list) image; state = blank; count = 0 }
@@ -75,7 +75,7 @@ module _ (image list : List ℕ) (r : Reading) (er : r ≡ read_of (length list)
 
 module _ (s : State) (ws buffer : List ℕ) (w : Written) (ew : w ≡ written_of s ws (length buffer)) (z : number_of w.reply ≡ 0) where
   abbrev put : Written
-  put = record { reply = R.Done; length = length (image_of s ws) }
+  put = record { reply = Ok tt; length = length (image_of s ws) }
 
   abbrev kept : Written
   kept = record { reply = write_reply s ws (length buffer); length = 0 }

@@ -1,8 +1,8 @@
 -- What a stored record says, and when the library's answer agrees with it. `rest` is a record without its kind and its length.
+use Rattle.replies.specs.Reply.{number_of}
 use Rattle.std.specs.Prelude.{ℕ, ◌+◌, ◌*◌, List, [], ◌≡◌, eqb, length, take, drop, get_or, replicate}
 use Rattle.predicates.specs.PredTest.{flags_of}
 use Rattle.registers.specs.declared.State.{State}
-use Rattle.replies.specs.Reply.{number_of}
 use Rattle.machine.specs.declared.Ran.{Ran}
 use Rattle.machine.specs.Step.{run_of}
 use Rattle.walk.specs.declared.Walked.{Walked}

@@ -1,4 +1,6 @@
 -- What holds of a walk that is not refused. Assumes nothing.
+use Rattle.replies.specs.Reply.{Reply, number_of}
+use Rattle.std.specs.Prelude.{Ok, Err}
 use Rattle.std.proofs.Common.{◌≡◌, ℕ, ◌^◌, ◌<◌, ◌≤◌, Bool, true, false, not, ◌||◌, eqb, ltb, ◌↔◌, List, length, get_or, sym, refl, ap, ◌∙◌, ap₂, arith, w64, Fits, ltb-false, le-ltb, lt-ltb, eq-eqb, ne_eqb}
 use borrow.Author.Tests.{eqb-false}
 use Rattle.bits.specs.declared.Size.{Size}
@@ -6,11 +8,9 @@ use Rattle.bits.specs.Choice.{pick}
 use Rattle.bits.proofs.Searches.{never}
 use Rattle.predicates.specs.Predicate.{elements}
 use Rattle.predicates.proofs.Lengths.{elements_pos}
-use Rattle.replies.specs.declared.Reply.{Reply}
-use Rattle.replies.specs.declared.Reply.TheVariants as R
+use Rattle.replies.specs.declared.Refusal.TheVariants as R
 use Rattle.registers.specs.declared.State.{State}
 use Rattle.registers.specs.Legal.{legal}
-use Rattle.replies.specs.Reply.{number_of}
 use Rattle.registers.specs.State.{read_x}
 use Rattle.registers.proofs.Legality.{legal_has, legal_sized, quads}
 use Rattle.words.specs.Words.{size_of}
@@ -19,7 +19,7 @@ use Rattle.walk.specs.Given.{GoodRegisters, Accepted}
 use Rattle.walk.specs.Walk.{bad_registers, distance, refusal_of}
 use Rattle.walk.specs.Lengths.{Typed}
 
-past : (b : Bool) (r x : Reply) → 0 < number_of r → pick b r x ≡ R.Done → (b ≡ false) × (x ≡ R.Done)
+past : (b : Bool) (r x : Reply) → 0 < number_of r → pick b r x ≡ Ok tt → (b ≡ false) × (x ≡ Ok tt)
 past true r x h e = absurd (omega (arith, ap number_of e))
 past false r x h e = (refl, e)
 
@@ -91,20 +91,20 @@ registers_good size n m d k = (none, all)
 -- the refusal past each test
 module _ (size n m d k : ℕ) (s : State) (places : ℕ) where
   abbrev past_3 : Reply
-  past_3 = pick (ltb places (distance n m s)) R.ListTooShort R.Done
+  past_3 = pick (ltb places (distance n m s)) (Err R.ListTooShort) (Ok tt)
 
   abbrev past_2 : Reply
-  past_2 = pick (not s.access) R.AccessOff past_3
+  past_2 = pick (not s.access) (Err R.AccessOff) past_3
 
   abbrev past_10 : Reply
-  past_10 = pick (eqb s.level 0) R.LevelTooLow past_2
+  past_10 = pick (eqb s.level 0) (Err R.LevelTooLow) past_2
 
-  pub refused_4 : legal s ≡ false → refusal_of size n m d k s places ≡ R.IllegalState
+  pub refused_4 : legal s ≡ false → refusal_of size n m d k s places ≡ Err R.IllegalState
   unfolding refusal_of
   refused_4 e = pick_yes _ _ _ (ap not e)
 
   module _ (ok : legal s ≡ true) where
-    pub refused_10 : bad_registers size n m d k ≡ true → refusal_of size n m d k s places ≡ R.BadWalkRegisters
+    pub refused_10 : bad_registers size n m d k ≡ true → refusal_of size n m d k s places ≡ Err R.BadWalkRegisters
     unfolding refusal_of
     refused_10 e = pick_no _ _ _ (ap not ok) ∙ pick_yes _ _ _ e
 
@@ -113,38 +113,38 @@ module _ (size n m d k : ℕ) (s : State) (places : ℕ) where
       unfolding refusal_of
       after_10 = pick_no _ _ _ (ap not ok) ∙ pick_no _ _ _ ((registers_good size n m d k).0 g)
 
-      pub refused_2 : s.level ≡ 0 → refusal_of size n m d k s places ≡ R.LevelTooLow
+      pub refused_2 : s.level ≡ 0 → refusal_of size n m d k s places ≡ Err R.LevelTooLow
       refused_2 e = after_10 ∙ pick_yes _ _ _ (eq-eqb s.level 0 e)
 
       module _ (present : 0 < s.level) where
         after_2 : refusal_of size n m d k s places ≡ past_2
         after_2 = after_10 ∙ pick_no _ _ _ (ne_eqb s.level 0 (λ e. omega arith))
 
-        pub refused_3 : s.access ≡ false → refusal_of size n m d k s places ≡ R.AccessOff
+        pub refused_3 : s.access ≡ false → refusal_of size n m d k s places ≡ Err R.AccessOff
         refused_3 e = after_2 ∙ pick_yes _ _ _ (ap not e)
 
         module _ (on : s.access ≡ true) where
           after_3 : refusal_of size n m d k s places ≡ past_3
           after_3 = after_2 ∙ pick_no _ _ _ (ap not on)
 
-          pub refused_11 : places < distance n m s → refusal_of size n m d k s places ≡ R.ListTooShort
+          pub refused_11 : places < distance n m s → refusal_of size n m d k s places ≡ Err R.ListTooShort
           refused_11 l = after_3 ∙ pick_yes _ _ _ (lt-ltb places (distance n m s) l)
 
-          not-refused : distance n m s ≤ places → refusal_of size n m d k s places ≡ R.Done
+          not-refused : distance n m s ≤ places → refusal_of size n m d k s places ≡ Ok tt
           not-refused l = after_3 ∙ pick_no _ _ _ (le-ltb places (distance n m s) l)
 
   -- the premises of demand 3 hold exactly if the walk is refused by none of 4, 10, 2, 3 and 11
-  pub accepted_when : Accepted size n m d k s places ↔ (refusal_of size n m d k s places ≡ R.Done)
+  pub accepted_when : Accepted size n m d k s places ↔ (refusal_of size n m d k s places ≡ Ok tt)
   unfolding refusal_of
   accepted_when = (λ a. not-refused a.legal_is a.registers a.present a.on a.room, accepted)
     where
-      accepted : refusal_of size n m d k s places ≡ R.Done → Accepted size n m d k s places
+      accepted : refusal_of size n m d k s places ≡ Ok tt → Accepted size n m d k s places
       accepted e =
-          let a = past (not (legal s)) R.IllegalState _ (omega arith) e in
-          let b = past (bad_registers size n m d k) R.BadWalkRegisters _ (omega arith) a.1 in
-          let level = past (eqb s.level 0) R.LevelTooLow _ (omega arith) b.1 in
-          let access = past (not s.access) R.AccessOff _ (omega arith) level.1 in
-          let room = past (ltb places (distance n m s)) R.ListTooShort R.Done (omega arith) access.1 in
+          let a = past (not (legal s)) (Err R.IllegalState) _ (omega arith) e in
+          let b = past (bad_registers size n m d k) (Err R.BadWalkRegisters) _ (omega arith) a.1 in
+          let level = past (eqb s.level 0) (Err R.LevelTooLow) _ (omega arith) b.1 in
+          let access = past (not s.access) (Err R.AccessOff) _ (omega arith) level.1 in
+          let room = past (ltb places (distance n m s)) (Err R.ListTooShort) (Ok tt) (omega arith) access.1 in
           let zero : s.level ≡ 0 → ⊥ = eqb-false s.level 0 level.0 in
           record {
             legal_is = not-false (legal s) a.0;
@@ -157,12 +157,12 @@ module _ (size n m d k : ℕ) (s : State) (places : ℕ) where
 -- ---- and then
 
 -- Pd and Pk are two of P0 to P15
-pub p_below : (size n m d k : ℕ) (s : State) (places : ℕ) → refusal_of size n m d k s places ≡ R.Done → (d < 16) × (k < 16)
+pub p_below : (size n m d k : ℕ) (s : State) (places : ℕ) → refusal_of size n m d k s places ≡ Ok tt → (d < 16) × (k < 16)
 p_below size n m d k s places e =
     let g = ((accepted_when size n m d k s places).1 e).registers in
     (omega arith, omega arith)
 
-pub accepted_within : (size n m d k : ℕ) (s : State) (l : List ℕ) → Typed s → refusal_of size n m d k s (length l) ≡ R.Done → Within (size_of size) n m d k s l
+pub accepted_within : (size n m d k : ℕ) (s : State) (l : List ℕ) → Typed s → refusal_of size n m d k s (length l) ≡ Ok tt → Within (size_of size) n m d k s l
 accepted_within size n m d k s l typed e =
     let a = (accepted_when size n m d k s (length l)).1 e in
     let g = a.registers in

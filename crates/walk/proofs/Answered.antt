@@ -1,11 +1,10 @@
 -- What a walk answers, refused or not. Assumes nothing but what the types of its arguments say.
+use Rattle.replies.specs.Reply.{Reply, number_of, is_done}
+use Rattle.std.specs.Prelude.{Ok}
 use Rattle.std.proofs.Common.{◌≡◌, ℕ, Bool, true, false, not, List, length, sym, ap, ◌∙◌, subst, subst₂, eqb-true}
 use borrow.Author.Tests.{not-true, not-false}
 use Rattle.bits.specs.Choice.{pick}
 use Rattle.bits.proofs.Searches.{never}
-use Rattle.replies.specs.declared.Reply.{Reply}
-use Rattle.replies.specs.declared.Reply.TheVariants.{Done}
-use Rattle.replies.specs.Reply.{number_of, is_done}
 use Rattle.replies.proofs.Replies.{number_done}
 use Rattle.registers.specs.declared.State.{State}
 use Rattle.words.specs.Words.{size_of}
@@ -22,14 +21,14 @@ module _ (size n m d k budget : ℕ) (s : State) (l : List ℕ) where
   reply = refusal_of size n m d k s (length l)
 
   -- a reply that is done refuses nothing
-  pub not-refused : {r : Reply} {t : Bool} → r ≡ refusal_of size n m d k s (length l) → t ≡ is_done r → not t ≡ false → refusal_of size n m d k s (length l) ≡ Done
+  pub not-refused : {r : Reply} {t : Bool} → r ≡ refusal_of size n m d k s (length l) → t ≡ is_done r → not t ≡ false → refusal_of size n m d k s (length l) ≡ Ok tt
   not-refused {r} {t} er et h = sym er ∙ number_done r (eqb-true (number_of r) 0 (sym et ∙ not-false t h))
 
   -- what `walk` ensures
   abbrev pub Answers : List ℕ → Walked → Type 0
   Answers after r =
       (r ≡ walk_of size n m d k budget s l) ×
-      ((after ≡ (whole_of size n m d k budget s l).list) × (refusal_of size n m d k s (length l) ≡ Done → Demand3 (size_of size) n m d k budget s l after r))
+      ((after ≡ (whole_of size n m d k budget s l).list) × (refusal_of size n m d k s (length l) ≡ Ok tt → Demand3 (size_of size) n m d k budget s l after r))
 
   abbrev refusal : Walked
   refusal = record { reply = reply; count = 0; visited = 0; state = s }
@@ -43,7 +42,7 @@ module _ (size n m d k budget : ℕ) (s : State) (l : List ℕ) where
         (sym (ap (λ (b : Bool). (pick b (plain_walk (size_of size) n m d k budget s l) (begin s l)).list) no), λ e. never (ap is_done e) no),
       )
 
-  pub whole_accepted : refusal_of size n m d k s (length l) ≡ Done → whole_of size n m d k budget s l ≡ plain_walk (size_of size) n m d k budget s l
+  pub whole_accepted : refusal_of size n m d k s (length l) ≡ Ok tt → whole_of size n m d k budget s l ≡ plain_walk (size_of size) n m d k budget s l
   unfolding whole_of
   whole_accepted e = ap (λ (r : Reply). pick (is_done r) (plain_walk (size_of size) n m d k budget s l) (begin s l)) e
 
@@ -51,7 +50,7 @@ module _ (size n m d k budget : ℕ) (s : State) (l : List ℕ) where
   unfolding whole_of
   whole-refused e = ap (λ (b : Bool). pick b (plain_walk (size_of size) n m d k budget s l) (begin s l)) e
 
-  pub answer_accepted : refusal_of size n m d k s (length l) ≡ Done → walk_of size n m d k budget s l ≡ walked (plain_walk (size_of size) n m d k budget s l)
+  pub answer_accepted : refusal_of size n m d k s (length l) ≡ Ok tt → walk_of size n m d k budget s l ≡ walked (plain_walk (size_of size) n m d k budget s l)
   unfolding walk_of
   answer_accepted e = ap (λ (r : Reply). pick (is_done r) (walked (whole_of size n m d k budget s l)) (record { reply = r; count = 0; visited = 0; state = s })) e ∙ ap walked (whole_accepted e)
 
@@ -60,7 +59,7 @@ module _ (size n m d k budget : ℕ) (s : State) (l : List ℕ) where
   answer-refused e = ap (λ (b : Bool). pick b (walked (whole_of size n m d k budget s l)) refusal) e
 
   pub accepted : {after : List ℕ} {r : Walked} → r ≡ walked (plain_walk (size_of size) n m d k budget s l) → after ≡ (plain_walk (size_of size) n m d k budget s l).list
-      → Typed s → refusal_of size n m d k s (length l) ≡ Done → Answers after r
+      → Typed s → refusal_of size n m d k s (length l) ≡ Ok tt → Answers after r
   accepted er el typed e = (
     er ∙ sym (answer_accepted e),
     (
@@ -71,5 +70,5 @@ module _ (size n m d k budget : ℕ) (s : State) (l : List ℕ) where
   )
 
   -- demand 3 of the answer as the definition has it
-  pub demand_of : {after : List ℕ} {r : Walked} → Answers after r → refusal_of size n m d k s (length l) ≡ Done → Demand3 (size_of size) n m d k budget s l after (walk_of size n m d k budget s l)
+  pub demand_of : {after : List ℕ} {r : Walked} → Answers after r → refusal_of size n m d k s (length l) ≡ Ok tt → Demand3 (size_of size) n m d k budget s l after (walk_of size n m d k budget s l)
   demand_of {after} h e = subst (λ (x : Walked). Demand3 (size_of size) n m d k budget s l after x) h.0 (h.1.1 e)

@@ -1,7 +1,7 @@
 -- Two budgets: a larger one only adds. Assumes nothing but what the types of the walks' arguments say.
+use Rattle.std.specs.Prelude.{Ok}
 use Rattle.std.proofs.Common.{◌≡◌, ℕ, ◌+◌, ◌-◌, ◌<◌, ◌≤◌, List, length, get_or, take, sym, ap, ◌∙◌, subst, subst₂, arith, length-take, get_or-take, take-take, ext_get_or}
 use Rattle.predicates.specs.Predicate.{elements}
-use Rattle.replies.specs.declared.Reply.TheVariants.{Done}
 use Rattle.replies.proofs.Replies.{not_done}
 use Rattle.registers.specs.declared.State.{State}
 use Rattle.registers.specs.State.{read_x}
@@ -52,7 +52,7 @@ module _ (size n m d k : ℕ) (s : State) (l : List ℕ) where
   abbrev M : WalkInstructions State
   M = instructions_of (size_of size) n m d k
 
-  module _ (e : refusal_of size n m d k s (length l) ≡ Done) where
+  module _ (e : refusal_of size n m d k s (length l) ≡ Ok tt) where
     pub larger_budget : (a b : ℕ) → a ≤ b → Adds (instructions_of (size_of size) n m d k) s l (whole_of size n m d k a s l) (whole_of size n m d k b s l)
     larger_budget a b h =
         subst₂ (Adds M s l) (sym (whole_accepted size n m d k a s l e)) (sym (whole_accepted size n m d k b s l e)) (only_adds M s l a b h)
@@ -75,7 +75,7 @@ module _ (size n m d k : ℕ) (s : State) (l : List ℕ) where
             (laws (size_of size) n m d k s l g) g.lanes
 
   -- no refusal but 12 looks at the budget
-  pub refused-same : (refusal_of size n m d k s (length l) ≡ Done → ⊥) → (a b : ℕ) → SameResults size n m d k a b s l
+  pub refused-same : (refusal_of size n m d k s (length l) ≡ Ok tt → ⊥) → (a b : ℕ) → SameResults size n m d k a b s l
   refused-same refused a b =
       let e = not_done (refusal_of size n m d k s (length l)) refused in (
         answer-refused size n m d k a s l e ∙ sym (answer-refused size n m d k b s l e),

@@ -1,9 +1,10 @@
 -- Demand 3 holds of the plain walk. Assumes nothing but what `Within` says.
+use Rattle.std.specs.Prelude.{Ok, Err}
 use Rattle.std.proofs.Common.{◌≡◌, ℕ, ◌+◌, ◌-◌, ◌<◌, ◌≤◌, Bool, List, get_or, refl, ap, ◌∙◌, arith}
 use Rattle.bits.specs.declared.Size.{Size}
 use Rattle.bits.specs.Choice.{pick}
 use Rattle.predicates.specs.Predicate.{elements}
-use Rattle.replies.specs.declared.Reply.TheVariants.{Done, BudgetSpent}
+use Rattle.replies.specs.declared.Refusal.TheVariants.{BudgetSpent}
 use Rattle.registers.specs.declared.State.{State}
 use Rattle.registers.specs.State.{read_x}
 use Rattle.walk.specs.Demand.{Finished, Spent, Demand3, needed}
@@ -25,7 +26,7 @@ module _ (size : Size) (n m d k : ℕ) (s : State) (l : List ℕ) (g : Within si
   finished h =
       let e = enough M s l (read_x s n) (distance n m s) (elements s.vl size) (lane_at size n m d k s) (Ready size n m d k s) (laws size n m d k s l g) g.lanes b h in
       record {
-        reply = ap (λ (v : Walk State). pick v.ended Done BudgetSpent) e;
+        reply = ap (λ (v : Walk State). pick v.ended (Ok tt) (Err BudgetSpent)) e;
         count = ap (λ (v : Walk State). v.count) e;
         visited = ap (λ (v : Walk State). v.visited) e;
         state = ap (λ (v : Walk State). v.state) e ∙ final size n m d k s l g;
@@ -34,7 +35,7 @@ module _ (size : Size) (n m d k : ℕ) (s : State) (l : List ℕ) (g : Within si
   spent : b < needed size n m s → Spent b (walked w)
   spent h =
       let e = short M s l (read_x s n) (distance n m s) (elements s.vl size) (lane_at size n m d k s) (Ready size n m d k s) (laws size n m d k s l g) g.lanes b h in
-      record { reply = ap (λ (z : Bool). pick z Done BudgetSpent) e; count = count-run M b s l e }
+      record { reply = ap (λ (z : Bool). pick z (Ok tt) (Err BudgetSpent)) e; count = count-run M b s l e }
 
   within : w.visited ≤ distance n m s
   within = (toward-end M s l (read_x s n) (distance n m s) (elements s.vl size) (lane_at size n m d k s) (Ready size n m d k s) (laws size n m d k s l g) g.lanes b).further

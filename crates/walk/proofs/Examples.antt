@@ -1,11 +1,12 @@
 -- Demand 3's hypotheses are met, and the walk is what it says: bytes from 5 to 42 at VL 128, where three vectors are crossed, and at VL 512; and a whole walk of doublewords by computation. So are those about budgets.
+use Rattle.std.specs.Prelude.{Ok, Err}
 use Rattle.std.proofs.Common.{◌≡◌, ℕ, zero, suc, ◌+◌, ◌-◌, ◌^◌, ◌<◌, ◌≤◌, Bool, true, false, List, [], ◌∷◌, length, get_or, take, drop, set, replicate, sym, refl, ap, ◌∙◌, arith}
 use Rattle.bits.specs.declared.Size.TheVariants as Sz
 use Rattle.bits.specs.Bits.{test_bit, number, element_bit}
 use Rattle.bits.specs.Search.{count, some, after_last, scan}
 use Rattle.predicates.specs.PredTest.{at_lowest, at_highest, pred_test, nzcv, flags_of}
 use Rattle.predicates.specs.Predicate.{bit_at, pack, active, spread, elements, predicate_length, has_bit_from, all_false}
-use Rattle.replies.specs.declared.Reply.TheVariants.{Done, LevelTooLow, AccessOff, IllegalState, BadWalkRegisters, ListTooShort, BudgetSpent}
+use Rattle.replies.specs.declared.Refusal.TheVariants.{LevelTooLow, AccessOff, IllegalState, BadWalkRegisters, ListTooShort, BudgetSpent}
 use Rattle.registers.specs.declared.State.{State}
 use Rattle.registers.specs.Legal.{has_all_registers, is_length, has_stray_bit, has_wrong_count, legal}
 use Rattle.registers.specs.Legal as Legal
@@ -71,10 +72,10 @@ legal_512 x2 = refl
 premises : (vl places : ℕ) → legal (start vl 42) ≡ true → 37 ≤ places → Accepted 0 1 2 0 1 (start vl 42) places
 premises vl places ok h = record { legal_is = ok; registers = numbers 0 (omega arith); present = omega arith; on = refl; room = h }
 
-pub accepted_128 : (places : ℕ) → 37 ≤ places → refusal_of 0 1 2 0 1 (start 128 42) places ≡ Done
+pub accepted_128 : (places : ℕ) → 37 ≤ places → refusal_of 0 1 2 0 1 (start 128 42) places ≡ Ok tt
 accepted_128 places h = (accepted_when 0 1 2 0 1 (start 128 42) places).0 (premises 128 places (legal_128 true 42) h)
 
-pub accepted_512 : (places : ℕ) → 37 ≤ places → refusal_of 0 1 2 0 1 (start 512 42) places ≡ Done
+pub accepted_512 : (places : ℕ) → 37 ≤ places → refusal_of 0 1 2 0 1 (start 512 42) places ≡ Ok tt
 accepted_512 places h = (accepted_when 0 1 2 0 1 (start 512 42) places).0 (premises 512 places (legal_512 42) h)
 
 -- 37 + 3 · 3 + 2 instructions with 16 lanes, 37 + 3 + 2 with 64
@@ -124,7 +125,7 @@ module _ (l : List ℕ) (room : 3 ≤ length l) where
   abbrev after : ℕ → State
   after b = (plain_walk Sz.D 1 2 0 1 b (start 128 8) l).state
 
-  accepted_whole : refusal_of 3 1 2 0 1 (start 128 8) (length l) ≡ Done
+  accepted_whole : refusal_of 3 1 2 0 1 (start 128 8) (length l) ≡ Ok tt
   accepted_whole = (accepted_when 3 1 2 0 1 (start 128 8) (length l)).0 (record { legal_is = legal_128 true 8; registers = numbers 3 (omega arith); present = omega arith; on = refl; room = room })
 
   pub all_steps : IsStep (Pfalse 1) (after 0) (after 1) × IsStep (While Less true (One true 0) Sz.D 1 2) (after 1) (after 2) × IsStep (Pnext Sz.D 0 1) (after 2) (after 3)
@@ -143,19 +144,19 @@ stays_counted l = walk-counted 0 1 2 0 1 5 (start 128 42) l refl
 
 -- every row of the table applies to some walk: budgets of 48 and 47; a place too few; access off; level 0; one X register twice; a length that is none of the five
 pub each_reply : (l : List ℕ) → length l ≡ 37
-    → ((walk_of 0 1 2 0 1 48 (start 128 42) l).reply ≡ Done) × ((walk_of 0 1 2 0 1 47 (start 128 42) l).reply ≡ BudgetSpent) × ((walk_of 0 1 2 0 1 48 (start 128 43) l).reply ≡ ListTooShort)
-    × ((walk_of 0 1 2 0 1 48 (state 128 1 false 43) l).reply ≡ AccessOff) × ((walk_of 0 1 2 0 1 48 (state 128 0 false 43) l).reply ≡ LevelTooLow)
-    × ((walk_of 0 1 1 0 1 48 (state 128 0 false 43) l).reply ≡ BadWalkRegisters) × ((walk_of 0 1 1 0 1 48 (state 100 0 false 43) l).reply ≡ IllegalState)
+    → ((walk_of 0 1 2 0 1 48 (start 128 42) l).reply ≡ Ok tt) × ((walk_of 0 1 2 0 1 47 (start 128 42) l).reply ≡ Err BudgetSpent) × ((walk_of 0 1 2 0 1 48 (start 128 43) l).reply ≡ Err ListTooShort)
+    × ((walk_of 0 1 2 0 1 48 (state 128 1 false 43) l).reply ≡ Err AccessOff) × ((walk_of 0 1 2 0 1 48 (state 128 0 false 43) l).reply ≡ Err LevelTooLow)
+    × ((walk_of 0 1 1 0 1 48 (state 128 0 false 43) l).reply ≡ Err BadWalkRegisters) × ((walk_of 0 1 1 0 1 48 (state 100 0 false 43) l).reply ≡ Err IllegalState)
 unfolding flags_of bad_registers Legal.illegal has_all_registers is_length has_stray_bit has_wrong_count same_counts all_counts counts_of count active elements some has_bit_from predicate_length bit_at pack number test_bit
 each_reply l h =
     let good = numbers 0 (omega arith) in (
-      (walk_exactly_when 0 1 2 0 1 48 (start 128 42) l (typed 128 1 true 42 (omega arith)) Done).1 (done (premises 128 (length l) refl (omega arith)) (omega arith)),
-      (walk_exactly_when 0 1 2 0 1 47 (start 128 42) l (typed 128 1 true 42 (omega arith)) BudgetSpent).1 (spent (premises 128 (length l) refl (omega arith)) (omega arith)),
-      (walk_exactly_when 0 1 2 0 1 48 (start 128 43) l (typed 128 1 true 43 (omega arith)) ListTooShort).1 (short refl good (omega arith) refl (omega arith)),
-      (walk_exactly_when 0 1 2 0 1 48 (state 128 1 false 43) l (typed 128 1 false 43 (omega arith)) AccessOff).1 (off refl good (omega arith) refl),
-      (walk_exactly_when 0 1 2 0 1 48 (state 128 0 false 43) l (typed 128 0 false 43 (omega arith)) LevelTooLow).1 (low refl good refl),
-      (walk_exactly_when 0 1 1 0 1 48 (state 128 0 false 43) l (typed 128 0 false 43 (omega arith)) BadWalkRegisters).1 (bad refl refl),
-      (walk_exactly_when 0 1 1 0 1 48 (state 100 0 false 43) l (typed 100 0 false 43 (omega arith)) IllegalState).1 (illegal refl),
+      (walk_exactly_when 0 1 2 0 1 48 (start 128 42) l (typed 128 1 true 42 (omega arith)) (Ok tt)).1 (done (premises 128 (length l) refl (omega arith)) (omega arith)),
+      (walk_exactly_when 0 1 2 0 1 47 (start 128 42) l (typed 128 1 true 42 (omega arith)) (Err BudgetSpent)).1 (spent (premises 128 (length l) refl (omega arith)) (omega arith)),
+      (walk_exactly_when 0 1 2 0 1 48 (start 128 43) l (typed 128 1 true 43 (omega arith)) (Err ListTooShort)).1 (short refl good (omega arith) refl (omega arith)),
+      (walk_exactly_when 0 1 2 0 1 48 (state 128 1 false 43) l (typed 128 1 false 43 (omega arith)) (Err AccessOff)).1 (off refl good (omega arith) refl),
+      (walk_exactly_when 0 1 2 0 1 48 (state 128 0 false 43) l (typed 128 0 false 43 (omega arith)) (Err LevelTooLow)).1 (low refl good refl),
+      (walk_exactly_when 0 1 1 0 1 48 (state 128 0 false 43) l (typed 128 0 false 43 (omega arith)) (Err BadWalkRegisters)).1 (bad refl refl),
+      (walk_exactly_when 0 1 1 0 1 48 (state 100 0 false 43) l (typed 100 0 false 43 (omega arith)) (Err IllegalState)).1 (illegal refl),
     )
 
 -- ---- two budgets: bytes from 5 to 42 at VL 128
@@ -173,7 +174,7 @@ module _ (l : List ℕ) (room : length l ≡ 37) where
 
   -- the last instruction: 12 and 0
   last_two : Adds (instructions_of Sz.B 1 2 0 1) (start 128 42) l (under 47) (under 48)
-      × ((walk_of 0 1 2 0 1 47 (start 128 42) l).reply ≡ BudgetSpent) × ((walk_of 0 1 2 0 1 48 (start 128 42) l).reply ≡ Done)
+      × ((walk_of 0 1 2 0 1 47 (start 128 42) l).reply ≡ Err BudgetSpent) × ((walk_of 0 1 2 0 1 48 (start 128 42) l).reply ≡ Ok tt)
   last_two = (two_budgets 47 48 (omega arith), (each_reply l room).1, (each_reply l room).0)
 
   -- 48 are as good as all

@@ -1,12 +1,11 @@
 -- A walk leaves a legal state legal, counts included, finished, spent or refused. Assumes nothing.
+use Rattle.replies.specs.Reply.{Reply, number_of, is_done}
 use Rattle.std.proofs.Common.{◌≡◌, ℕ, Bool, true, false, List, length, refl, ap, ◌∙◌, eqb-true}
 use Rattle.bits.specs.declared.Size.{Size}
 use Rattle.registers.specs.declared.State.{State}
 use Rattle.registers.specs.Legal.{legal}
 use Rattle.registers.specs.State.{counted}
 use Rattle.registers.proofs.Legality.{legal-counted}
-use Rattle.replies.specs.declared.Reply.{Reply}
-use Rattle.replies.specs.Reply.{number_of, is_done}
 use Rattle.replies.proofs.Replies.{number_done}
 use Rattle.words.specs.declared.Instruction.{Instruction}
 use Rattle.words.specs.Words.{size_of}

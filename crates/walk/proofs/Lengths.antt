@@ -1,7 +1,7 @@
 -- Two vector lengths: a walk's positions hang on start and limit alone. Assumes nothing but what the types of the walks' arguments say.
+use Rattle.std.specs.Prelude.{Ok}
 use Rattle.std.proofs.Common.{◌≡◌, ℕ, ◌-◌, ◌<◌, ◌≤◌, List, length, get_or, sym, ◌∙◌, subst, arith, ext_get_or}
 use native.Mathlib.Decide.{dec_lt}
-use Rattle.replies.specs.declared.Reply.TheVariants.{Done}
 use Rattle.registers.specs.declared.State.{State}
 use Rattle.registers.specs.State.{read_x}
 use Rattle.words.specs.Words.{size_of}
@@ -25,7 +25,7 @@ wrote_same start d l v w p q = ext_get_or 0 _ _ (p.places ∙ sym q.places) at
 
 module _ (size n m d k : ℕ) (l : List ℕ) where
   -- a walk with budget enough
-  pub wrote : (b : ℕ) (s : State) → Typed s → refusal_of size n m d k s (length l) ≡ Done → needed (size_of size) n m s ≤ b
+  pub wrote : (b : ℕ) (s : State) → Typed s → refusal_of size n m d k s (length l) ≡ Ok tt → needed (size_of size) n m s ≤ b
       → Wrote (read_x s n) (distance n m s) l (whole_of size n m d k b s l)
   wrote b s typed e h =
       let r = demand3 (size_of size) n m d k s l (accepted_within size n m d k s l typed e) b in
@@ -38,7 +38,7 @@ module _ (size n m d k : ℕ) (l : List ℕ) where
       }
 
   -- Two states, of whatever vector lengths, with one start and one limit, and budgets that suffice: both walks write start .. limit - 1, and leave the same list
-  pub two_lengths : (a b : ℕ) (s t : State) → Typed s → Typed t → refusal_of size n m d k s (length l) ≡ Done → refusal_of size n m d k t (length l) ≡ Done
+  pub two_lengths : (a b : ℕ) (s t : State) → Typed s → Typed t → refusal_of size n m d k s (length l) ≡ Ok tt → refusal_of size n m d k t (length l) ≡ Ok tt
       → read_x t n ≡ read_x s n → read_x t m ≡ read_x s m → needed (size_of size) n m s ≤ a → needed (size_of size) n m t ≤ b
       → Wrote (read_x s n) (distance n m s) l (whole_of size n m d k a s l) × Wrote (read_x s n) (distance n m s) l (whole_of size n m d k b t l)
       × ((whole_of size n m d k a s l).list ≡ (whole_of size n m d k b t l).list)

@@ -1,4 +1,5 @@
 -- A turn of the walk's loop, instruction by instruction: between two turns its locals are the plain walk with the count as its budget. Assumes nothing.
+use Rattle.std.specs.Prelude.{Ok, Err}
 use Rattle.std.proofs.Common.{◌≡◌, ℕ, ◌+◌, ◌*◌, ◌%◌, ◌^◌, ◌<◌, ◌≤◌, Bool, true, false, not, ◌&&◌, eqb, List, length, set, sym, refl, ap, ◌∙◌, subst, arith, w64}
 use borrow.Author.Tests.{not-true, not-false}
 use Rattle.bits.specs.declared.Size.{Size}
@@ -12,7 +13,7 @@ use Rattle.predicates.specs.PredTest.{nzcv, flags_of}
 use Rattle.predicates.specs.Predicate.{bit_at, pack, all_false, active, touched, spread, span_of, elements, live_of}
 use Rattle.predicates.proofs.Live.{elements-le}
 use Rattle.registers.specs.declared.State.{State}
-use Rattle.replies.specs.declared.Reply.TheVariants.{Done, BudgetSpent}
+use Rattle.replies.specs.declared.Refusal.TheVariants.{BudgetSpent}
 use Rattle.registers.specs.State.{read_x, read_p, with_x, with_p, with_flags}
 use Rattle.scalars.specs.declared.Condition.TheVariants.{Less}
 use Rattle.scalars.specs.Value.{low_of}
@@ -118,12 +119,12 @@ module _ {size : Size} {n m d k budget : ℕ} {s : State} {l : List ℕ} {h : Lo
   -- the answer, by the number that names the size
   pub answers : (number : ℕ) → size ≡ size_of number → plain_walk size n m d k budget s l ≡ walk_as h
       → {s₁ s₂ s₃ s₄ : State} {r : Walked} → s₁ ≡ with_x s n h.x → s₂ ≡ with_p s₁ d h.lanes → s₃ ≡ with_p s₂ k h.cursor → s₄ ≡ with_flags s₃ h.flags
-      → r ≡ record { reply = pick h.ended Done BudgetSpent; count = h.count; visited = h.visited; state = s₄ }
+      → r ≡ record { reply = pick h.ended (Ok tt) (Err BudgetSpent); count = h.count; visited = h.visited; state = s₄ }
       → (r ≡ walked (plain_walk (size_of number) n m d k budget s l)) × (h.list ≡ (plain_walk (size_of number) n m d k budget s l).list)
   answers number es e ex ed ek ef er =
       let state = ef ∙ ap (λ (t : State). with_flags t h.flags) (ek ∙ ap (λ (t : State). with_p t k h.cursor) (ed ∙ ap (λ (t : State). with_p t d h.lanes) ex)) in
       let whole = sym e ∙ ap (λ (z : Size). plain_walk z n m d k budget s l) es in (
-        er ∙ ap (λ (t : State). record { reply = pick h.ended Done BudgetSpent; count = h.count; visited = h.visited; state = t }) state ∙ ap walked whole,
+        er ∙ ap (λ (t : State). record { reply = pick h.ended (Ok tt) (Err BudgetSpent); count = h.count; visited = h.visited; state = t }) state ∙ ap walked whole,
         ap (λ (v : Walk State). v.list) whole,
       )
 

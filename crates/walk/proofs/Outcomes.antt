@@ -1,7 +1,7 @@
 -- How the first refusal that applies is found, test by test. Assumes nothing.
+use Rattle.replies.specs.Reply.{Reply}
 use Rattle.std.proofs.Common.{◌≡◌, ℕ, ◌-◌, ◌<◌, ◌≤◌, Bool, true, false, not, ◌||◌, ltb, sym, ap, ◌∙◌, arith, le-ltb, lt-ltb, eq-eqb, ne_eqb}
 use Rattle.bits.specs.Choice.{pick}
-use Rattle.replies.specs.declared.Reply.{Reply}
 
 -- ---- a list of tests, of which the first that holds decides
 

@@ -1,4 +1,5 @@
 -- A walk that is taken up again where its budget was spent comes to what a single walk does. Assumes nothing but what the types of the walks' arguments say.
+use Rattle.std.specs.Prelude.{Ok}
 use Rattle.std.proofs.Common.{◌≡◌, ℕ, zero, suc, ◌+◌, ◌-◌, ◌*◌, ◌^◌, ◌<◌, ◌≤◌, max, true, false, List, ◌++◌, length, take, drop, sym, refl, ap, ◌∙◌, subst, ap₂, zero-mul, arith, length-drop, get_or-set_other}
 use native.Mathlib.Decide.{ℕ_discrete}
 use lib.Seq.{set-get_or}
@@ -6,7 +7,6 @@ use Rattle.bits.specs.declared.Size.{Size}
 use Rattle.predicates.specs.declared.Flags.{Flags}
 use Rattle.predicates.specs.declared.Predicate.{Predicate}
 use Rattle.predicates.specs.Predicate.{all_false, elements}
-use Rattle.replies.specs.declared.Reply.TheVariants.{Done}
 use Rattle.registers.specs.declared.State.{State}
 use Rattle.registers.specs.State.{read_x, read_p, with_x, with_p, with_flags}
 use Rattle.registers.proofs.Legality.{counts_stay}
@@ -89,7 +89,7 @@ module _ (size : Size) (n m d k : ℕ) (s : State) (l : List ℕ) (g : Within si
 -- ---- the walk as it is called
 
 -- a walk with budget enough
-module _ (size n m d k : ℕ) (s : State) (l : List ℕ) (typed : Typed s) (e : refusal_of size n m d k s (length l) ≡ Done) where
+module _ (size n m d k : ℕ) (s : State) (l : List ℕ) (typed : Typed s) (e : refusal_of size n m d k s (length l) ≡ Ok tt) where
   g : Within (size_of size) n m d k s l
   g = accepted_within size n m d k s l typed e
 
@@ -102,7 +102,7 @@ module _ (size n m d k : ℕ) (s : State) (l : List ℕ) (typed : Typed s) (e : 
   done_state b h = ap (λ (w : Walk State). w.state) (whole_accepted size n m d k b s l e) ∙ ((demand3 (size_of size) n m d k s l g b).enough h).state
 
 -- what a walk came to under budget a: its state is the given one but for Xn, Pd, Pk and the flags
-module _ (size n m d k : ℕ) (s : State) (l : List ℕ) (typed : Typed s) (e : refusal_of size n m d k s (length l) ≡ Done) (a passed : ℕ) (pd pk : Predicate) (f : Flags)
+module _ (size n m d k : ℕ) (s : State) (l : List ℕ) (typed : Typed s) (e : refusal_of size n m d k s (length l) ≡ Ok tt) (a passed : ℕ) (pd pk : Predicate) (f : Flags)
     (is : (plain_walk (size_of size) n m d k a s l).state ≡ base s n d k (read_x s n + passed) pd pk f)
     (at : Stopped (distance n m s) (elements s.vl (size_of size)) a passed (plain_walk (size_of size) n m d k a s l).visited) where
   abbrev Z : Size
@@ -135,7 +135,7 @@ module _ (size n m d k : ℕ) (s : State) (l : List ℕ) (typed : Typed s) (e : 
   typed_there : Typed v.state
   typed_there = subst Typed (sym is) (x_typed Z n m d k s l ok (read_x s n + passed) pd pk f typed (omega (arith, below, typed.fits n, typed.fits m)))
 
-  accepted : refusal_of size n m d k v.state (length (drop o v.list)) ≡ Done
+  accepted : refusal_of size n m d k v.state (length (drop o v.list)) ≡ Ok tt
   accepted =
       let given = (accepted_when size n m d k s (length l)).1 e in
       let settings = plain-settings Z n m d k a s l in
@@ -172,7 +172,7 @@ module _ (size n m d k : ℕ) (s : State) (l : List ℕ) (typed : Typed s) (e : 
     state = state;
   }
 
-pub resumed : (size n m d k : ℕ) (s : State) (l : List ℕ) → Typed s → refusal_of size n m d k s (length l) ≡ Done → (a : ℕ) → Resumes size n m d k a s l (whole_of size n m d k a s l)
+pub resumed : (size n m d k : ℕ) (s : State) (l : List ℕ) → Typed s → refusal_of size n m d k s (length l) ≡ Ok tt → (a : ℕ) → Resumes size n m d k a s l (whole_of size n m d k a s l)
 resumed size n m d k s l typed e a =
     let z = size_of size in
     let g = accepted_within size n m d k s l typed e in

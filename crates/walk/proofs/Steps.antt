@@ -1,12 +1,12 @@
 -- Each instruction of an accepted walk, written as a word, is accepted by a step in the state in which it comes, and its step is what the walk does. Assumes nothing.
+use Rattle.std.specs.Prelude.{Ok, Err}
 use Rattle.std.proofs.Common.{◌≡◌, ℕ, ◌+◌, ◌<◌, ◌≤◌, Bool, true, false, List, length, sym, refl, ap, ◌∙◌, arith, lt-ltb}
 use Rattle.bits.specs.declared.Size.{Size}
 use Rattle.bits.specs.Choice.{pick}
 use Rattle.bits.specs.Size.{shift}
 use Rattle.bits.proofs.Sizes.{shift-lt}
-use Rattle.replies.specs.declared.Reply.TheVariants.{Done, FieldPastRange}
+use Rattle.replies.specs.declared.Refusal.TheVariants.{FieldPastRange}
 use Rattle.registers.specs.declared.State.{State}
-use Rattle.words.specs.declared.Encoded.TheVariants as Enc
 use Rattle.words.specs.declared.Instruction.{Instruction}
 use Rattle.words.specs.Layout.{fits}
 use Rattle.words.specs.Words.{size_of, in_range, word_of, encode_of, level_of}
@@ -81,12 +81,12 @@ module _ (size : Size) (n m d k : ℕ) where
       let w = plain_walk size n m d k b s l in
       ap (λ (v : Walk State). v.state) (run_one M b (begin s l) ∙ ap (λ (z : Bool). pick z w (execute M w.next w)) e) ∙ executes w.next w
 
-has_word : (i : Instruction) → in_range i ≡ true → encode_of i ≡ Enc.Word (word_of i)
+has_word : (i : Instruction) → in_range i ≡ true → encode_of i ≡ Ok (word_of i)
 unfolding encode_of
-has_word i h = ap (λ (b : Bool). pick b (Enc.Word (word_of i)) (Enc.Refused FieldPastRange)) h
+has_word i h = ap (λ (b : Bool). pick b (Ok (word_of i)) (Err FieldPastRange)) h
 
 -- for an accepted walk, at every budget at which it has not ended
-pub walk_steps : (size n m d k : ℕ) (s : State) (l : List ℕ) → refusal_of size n m d k s (length l) ≡ Done
+pub walk_steps : (size n m d k : ℕ) (s : State) (l : List ℕ) → refusal_of size n m d k s (length l) ≡ Ok tt
     → (b : ℕ) → (plain_walk (size_of size) n m d k b s l).ended ≡ false
     → IsStep (instruction_at (size_of size) n m d k (plain_walk (size_of size) n m d k b s l).next) (plain_walk (size_of size) n m d k b s l).state (plain_walk (size_of size) n m d k (b + 1) s l).state
 walk_steps size n m d k s l e b on =
@@ -103,6 +103,6 @@ walk_steps size n m d k s l e b on =
       written = has_word i fits;
       accepted =
           instruction_accepted w.state i fits kept enough (settings.access ∙ a.on) (takes_any (size_of size) n m d k w.next w.state)
-          ∙ ap (answered Done) (sym executed);
+          ∙ ap (answered (Ok tt)) (sym executed);
       executed = executed;
     }

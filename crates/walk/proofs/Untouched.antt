@@ -1,11 +1,10 @@
 -- A walk changes no predicate register but Pd and Pk, and so never FFR. Assumes nothing.
+use Rattle.replies.specs.Reply.{Reply, number_of, is_done}
+use Rattle.std.specs.Prelude.{Ok}
 use Rattle.std.proofs.Common.{◌≡◌, ℕ, ◌<◌, Bool, true, false, List, length, refl, ap, ◌∙◌, arith, eqb-true}
 use Rattle.bits.specs.declared.Size.{Size}
 use Rattle.registers.specs.declared.State.{State}
 use Rattle.registers.specs.State.{ffr, register_count, read_p}
-use Rattle.replies.specs.declared.Reply.{Reply}
-use Rattle.replies.specs.declared.Reply.TheVariants.{Done}
-use Rattle.replies.specs.Reply.{number_of, is_done}
 use Rattle.replies.proofs.Replies.{number_done}
 use Rattle.scalars.specs.declared.Condition.TheVariants.{Less}
 use Rattle.words.specs.declared.Instruction.TheVariants.{While, IncDec, Pnext, Pfalse}
@@ -41,7 +40,7 @@ ffr_kept size n m d k budget s l = go (is_done reply) refl
 
     go : (b : Bool) → is_done reply ≡ b → read_p (walk_of size n m d k budget s l).state ffr ≡ read_p s ffr
     go true e =
-        let accepted : reply ≡ Done = number_done reply (eqb-true (number_of reply) 0 e) in
+        let accepted : reply ≡ (Ok tt) = number_done reply (eqb-true (number_of reply) 0 e) in
         let (d-below, k_below) = p_below size n m d k s (length l) accepted in
         ap (λ (x : Walked). read_p x.state ffr) (answer_accepted size n m d k budget s l accepted)
         ∙ walk_keeps (size_of size) n m d k ffr (omega arith) (λ q. omega arith) (λ q. omega arith) budget s l

@@ -1,8 +1,9 @@
 -- Demand 3: what a walk that is not refused comes to.
+use Rattle.std.specs.Prelude.{Ok, Err}
 use Rattle.std.specs.Prelude.{◌≡◌, ℕ, ◌+◌, ◌<◌, ◌≤◌, max, true, false, List, length, slice_index}
 use Rattle.bits.specs.declared.Size.{Size}
 use Rattle.predicates.specs.Predicate.{all_false, elements}
-use Rattle.replies.specs.declared.Reply.TheVariants.{Done, BudgetSpent}
+use Rattle.replies.specs.declared.Refusal.TheVariants.{BudgetSpent}
 use Rattle.registers.specs.declared.State.{State}
 use Rattle.registers.specs.State.{read_x, with_x, with_p, with_flags}
 use Rattle.walk.specs.declared.Walked.{Walked}
@@ -21,14 +22,14 @@ final_state n m d k s =
 
 -- a finished walk
 pub record Finished (size : Size) (n m d k : ℕ) (s : State) (r : Walked) : Type 0 where
-  pub reply : r.reply ≡ Done
+  pub reply : r.reply ≡ Ok tt
   pub count : r.count ≡ needed size n m s
   pub visited : r.visited ≡ distance n m s
   pub state : r.state ≡ final_state n m d k s
 
 -- a walk whose budget is spent: state and positions are the plain walk's after that many instructions
 pub record Spent (budget : ℕ) (r : Walked) : Type 0 where
-  pub reply : r.reply ≡ BudgetSpent
+  pub reply : r.reply ≡ Err BudgetSpent
   pub count : r.count ≡ budget
 
 -- the walk with the list before and after, and the answer

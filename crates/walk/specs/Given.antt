@@ -1,7 +1,8 @@
 -- When a walk is refused by none of 4, 10, 2, 3 and 11, and when it gives each reply.
+use Rattle.replies.specs.Reply.{Reply}
+use Rattle.std.specs.Prelude.{Ok, Err}
 use Rattle.std.specs.Prelude.{◌≡◌, ℕ, ◌<◌, ◌≤◌, true, false}
-use Rattle.replies.specs.declared.Reply.{Reply}
-use Rattle.replies.specs.declared.Reply.TheVariants.{Done, LevelTooLow, AccessOff, IllegalState, BadWalkRegisters, ListTooShort, BudgetSpent}
+use Rattle.replies.specs.declared.Refusal.TheVariants.{LevelTooLow, AccessOff, IllegalState, BadWalkRegisters, ListTooShort, BudgetSpent}
 use Rattle.registers.specs.declared.State.{State}
 use Rattle.registers.specs.Legal.{legal}
 use Rattle.words.specs.Words.{size_of}
@@ -29,10 +30,10 @@ pub record Accepted (size n m d k : ℕ) (s : State) (places : ℕ) : Type 0 whe
 
 -- rows 4, 10, 2, 3, 11, 12 and 0 of the table of replies, in the order of a walk
 pub data Given (size n m d k budget : ℕ) (s : State) (places : ℕ) : Reply → Type 0 where
-  illegal : legal s ≡ false → Given size n m d k budget s places IllegalState
-  bad : legal s ≡ true → bad_registers size n m d k ≡ true → Given size n m d k budget s places BadWalkRegisters
-  low : legal s ≡ true → GoodRegisters size n m d k → s.level ≡ 0 → Given size n m d k budget s places LevelTooLow
-  off : legal s ≡ true → GoodRegisters size n m d k → 0 < s.level → s.access ≡ false → Given size n m d k budget s places AccessOff
-  short : legal s ≡ true → GoodRegisters size n m d k → 0 < s.level → s.access ≡ true → places < distance n m s → Given size n m d k budget s places ListTooShort
-  spent : Accepted size n m d k s places → budget < needed (size_of size) n m s → Given size n m d k budget s places BudgetSpent
-  done : Accepted size n m d k s places → needed (size_of size) n m s ≤ budget → Given size n m d k budget s places Done
+  illegal : legal s ≡ false → Given size n m d k budget s places (Err IllegalState)
+  bad : legal s ≡ true → bad_registers size n m d k ≡ true → Given size n m d k budget s places (Err BadWalkRegisters)
+  low : legal s ≡ true → GoodRegisters size n m d k → s.level ≡ 0 → Given size n m d k budget s places (Err LevelTooLow)
+  off : legal s ≡ true → GoodRegisters size n m d k → 0 < s.level → s.access ≡ false → Given size n m d k budget s places (Err AccessOff)
+  short : legal s ≡ true → GoodRegisters size n m d k → 0 < s.level → s.access ≡ true → places < distance n m s → Given size n m d k budget s places (Err ListTooShort)
+  spent : Accepted size n m d k s places → budget < needed (size_of size) n m s → Given size n m d k budget s places (Err BudgetSpent)
+  done : Accepted size n m d k s places → needed (size_of size) n m s ≤ budget → Given size n m d k budget s places (Ok tt)

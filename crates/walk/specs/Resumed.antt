@@ -1,7 +1,7 @@
 -- A walk that is taken up again where its budget was spent: a new walk from the state that it left, with the rest of the list.
+use Rattle.std.specs.Prelude.{Ok}
 use Rattle.std.specs.Prelude.{◌≡◌, ℕ, suc, ◌+◌, ◌-◌, ◌*◌, ◌<◌, ◌≤◌, min, List, ◌++◌, length, take, drop}
 use Rattle.predicates.specs.Predicate.{elements}
-use Rattle.replies.specs.declared.Reply.TheVariants.{Done}
 use Rattle.registers.specs.declared.State.{State}
 use Rattle.registers.specs.State.{read_x}
 use Rattle.words.specs.Words.{size_of}
@@ -39,7 +39,7 @@ pub record Resumes (size n m d k budget : ℕ) (s : State) (l : List ℕ) (v : W
   pub xn : read_x v.state n ≡ read_x s n + grown n s v.state
   pub stopped : Stopped (distance n m s) (elements s.vl (size_of size)) budget (grown n s v.state) v.visited
   -- from there, with the list's part from that place on, nothing refuses a walk
-  pub accepted : refusal_of size n m d k v.state (length (drop (grown n s v.state) v.list)) ≡ Done
+  pub accepted : refusal_of size n m d k v.state (length (drop (grown n s v.state) v.list)) ≡ Ok tt
   -- if its budget suffices, both together leave the list of a single walk, and it leaves that walk's state
   pub list : (b c : ℕ) → needed (size_of size) n m v.state ≤ b → needed (size_of size) n m s ≤ c
       → take (grown n s v.state) v.list ++ (whole_of size n m d k b v.state (drop (grown n s v.state) v.list)).list ≡ (whole_of size n m d k c s l).list

@@ -1,4 +1,6 @@
 -- The walk of the register state, with its refusals.
+use Rattle.replies.specs.Reply.{Reply, is_done}
+use Rattle.std.specs.Prelude.{Ok, Err}
 use Rattle.std.specs.Prelude.{ℕ, ◌+◌, ◌-◌, ◌%◌, ◌^◌, Bool, true, false, not, ◌||◌, List, length, ◌==◌, nat_lt}
 use Rattle.bits.specs.declared.Size.{Size}
 use Rattle.bits.specs.Choice.{pick}
@@ -6,11 +8,9 @@ use Rattle.bits.specs.Search.{first_from}
 use Rattle.bits.specs.Size.{shift}
 use Rattle.predicates.specs.declared.Predicate.{Predicate}
 use Rattle.predicates.specs.Predicate.{active, elements}
-use Rattle.replies.specs.declared.Reply.{Reply}
-use Rattle.replies.specs.declared.Reply.TheVariants.{Done, LevelTooLow, AccessOff, IllegalState, BadWalkRegisters, ListTooShort, BudgetSpent}
+use Rattle.replies.specs.declared.Refusal.TheVariants.{LevelTooLow, AccessOff, IllegalState, BadWalkRegisters, ListTooShort, BudgetSpent}
 use Rattle.registers.specs.declared.State.{State}
 use Rattle.registers.specs.Legal.{legal}
-use Rattle.replies.specs.Reply.{is_done}
 use Rattle.registers.specs.State.{read_x, read_p}
 use Rattle.scalars.specs.declared.Condition.TheVariants.{Less}
 use Rattle.words.specs.declared.Target.TheVariants.{One}
@@ -53,7 +53,7 @@ plain_walk size n m d k budget s l = run (instructions_of size n m d k) budget (
 
 -- the reply is 0 if it has ended, else 12
 abbrev pub walked : Walk State → Walked
-walked w = record { reply = pick w.ended Done BudgetSpent; count = w.count; visited = w.visited; state = w.state }
+walked w = record { reply = pick w.ended (Ok tt) (Err BudgetSpent); count = w.count; visited = w.visited; state = w.state }
 
 -- register number past 31 (X) or 15 (P), size past 3, n = 31, n = m, or d = k
 unfoldable pub bad_registers : ℕ → ℕ → ℕ → ℕ → ℕ → Bool
@@ -66,11 +66,11 @@ distance n m s = read_x s m - read_x s n
 -- the first refusal of 4, 10, 2 (level 0), 3 and 11 that applies, or 0
 unfoldable pub refusal_of : ℕ → ℕ → ℕ → ℕ → ℕ → State → ℕ → Reply
 refusal_of size n m d k s places =
-    pick (not (legal s)) IllegalState
-    (pick (bad_registers size n m d k) BadWalkRegisters
-    (pick (s.level == 0) LevelTooLow
-    (pick (not s.access) AccessOff
-    (pick (nat_lt places (distance n m s)) ListTooShort Done))))
+    pick (not (legal s)) (Err IllegalState)
+    (pick (bad_registers size n m d k) (Err BadWalkRegisters)
+    (pick (s.level == 0) (Err LevelTooLow)
+    (pick (not s.access) (Err AccessOff)
+    (pick (nat_lt places (distance n m s)) (Err ListTooShort) (Ok tt)))))
 
 -- the walk at its end; where it is refused, as it begins
 unfoldable pub whole_of : ℕ → ℕ → ℕ → ℕ → ℕ → ℕ → State → List ℕ → Walk State

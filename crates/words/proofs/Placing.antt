@@ -1,4 +1,5 @@
 -- A word placed number by number, and the table of places.
+use Rattle.std.specs.Prelude.{Ok, Err}
 use Prim.Native.Nat.{ℕ, zero, suc, ◌+◌, ◌*◌, ◌<◌, ◌≤◌, ◌%◌, ◌^◌}
 use mathlib.Core.Path.{◌≡◌, refl, sym, ap, ◌∙◌}
 use mathlib.Core.Bool.{Bool, true, false, ◌&&◌, not}
@@ -13,14 +14,13 @@ use lib.ListN.{length, get_or, drop, drop_of_length-le}
 use lib.Seq.{drop-cons}
 use borrow.Author.Tests.{le-ltb, lt-ltb, not-true, not-false}
 use Rattle.bits.specs.Choice.{pick}
-use Rattle.replies.specs.declared.Reply.TheVariants.{FieldPastRange}
+use Rattle.replies.specs.declared.Refusal.TheVariants.{FieldPastRange}
 use Rattle.words.specs.Layout.{Piece, span, fits, place, up_to, from}
 use Rattle.words.specs.Layout.Piece.{fixed, field}
 use Rattle.words.specs.Words.{Form, pfalse_form, forms, form_at}
 use Rattle.words.specs.Rows.{row_layout, written_in, encoded_as}
 use Rattle.words.specs.Inside.{lows, widths, places_of}
 use Rattle.words.specs.declared.write.Places.{Places}
-use Rattle.words.specs.declared.Encoded.TheVariants.{Word, Refused}
 use Rattle.words.proofs.Codec.{well_formed, place-lt}
 use Rattle.words.proofs.Table.{word_wide, well_formed_lem}
 
@@ -182,27 +182,27 @@ module _ (row : List ℕ) where
   abbrev xs : List ℕ
   xs = drop 1 row
 
-  by_form : {b : Bool} → ltb (get_or row 0 0) (length forms) ≡ b → encoded_as row ≡ pick b (written_in f xs) (Refused FieldPastRange)
-  by_form h = ap (λ (b : Bool). pick b (written_in f xs) (Refused FieldPastRange)) h
+  by_form : {b : Bool} → ltb (get_or row 0 0) (length forms) ≡ b → encoded_as row ≡ pick b (written_in f xs) (Err FieldPastRange)
+  by_form h = ap (λ (b : Bool). pick b (written_in f xs) (Err FieldPastRange)) h
 
-  pub past-forms : length forms ≤ get_or row 0 0 → Refused FieldPastRange ≡ encoded_as row
+  pub past-forms : length forms ≤ get_or row 0 0 → Err FieldPastRange ≡ encoded_as row
   past-forms h = sym (by_form (le-ltb (get_or row 0 0) (length forms) h))
 
   module _ {a : Bool} (e : a ≡ from f.allowed xs) (h : get_or row 0 0 < length forms) where
-    by_fields : {b : Bool} → (a && fits (row_layout f) xs) ≡ b → encoded_as row ≡ pick b (Word (place (row_layout f) xs)) (Refused FieldPastRange)
+    by_fields : {b : Bool} → (a && fits (row_layout f) xs) ≡ b → encoded_as row ≡ pick b (Ok (place (row_layout f) xs)) (Err FieldPastRange)
     by_fields q =
         by_form (lt-ltb (get_or row 0 0) (length forms) h)
-        ∙ ap (λ (b : Bool). pick b (Word (place (row_layout f) xs)) (Refused FieldPastRange)) (ap (λ (b : Bool). b && fits (row_layout f) xs) (sym e) ∙ q)
+        ∙ ap (λ (b : Bool). pick b (Ok (place (row_layout f) xs)) (Err FieldPastRange)) (ap (λ (b : Bool). b && fits (row_layout f) xs) (sym e) ∙ q)
 
-    pub left_out : not a ≡ true → Refused FieldPastRange ≡ encoded_as row
+    pub left_out : not a ≡ true → Err FieldPastRange ≡ encoded_as row
     left_out q = sym (by_fields (ap (λ (b : Bool). b && fits (row_layout f) xs) (not-true a q)))
 
     module _ (q : not a ≡ false) where
-      pub row-refused : fits (row_layout f) xs ≡ false → Refused FieldPastRange ≡ encoded_as row
+      pub row-refused : fits (row_layout f) xs ≡ false → Err FieldPastRange ≡ encoded_as row
       row-refused g = sym (by_fields (ap (λ (b : Bool). b && fits (row_layout f) xs) (not-false a q) ∙ g))
 
-      pub row_written : {w : ℕ} → fits (row_layout f) xs ≡ true → w ≡ place (row_layout f) xs → Word w ≡ encoded_as row
-      row_written g p = ap Word p ∙ sym (by_fields (ap (λ (b : Bool). b && fits (row_layout f) xs) (not-false a q) ∙ g))
+      pub row_written : {w : ℕ} → fits (row_layout f) xs ≡ true → w ≡ place (row_layout f) xs → Ok w ≡ encoded_as row
+      row_written g p = ap Ok p ∙ sym (by_fields (ap (λ (b : Bool). b && fits (row_layout f) xs) (not-false a q) ∙ g))
 
 pub row_lt : (n : ℕ) (row ns ms : List ℕ) (k : ℕ) {w : ℕ} → length ns ≡ 8 → length ms ≡ 8 → length row ≡ 9 → 8 ≤ k
     → w + sum (drop k ns) (drop (k + 1) row) ≡ place (row_layout (form_at n)) (drop 1 row) → within (drop k ms) (drop (k + 1) row) ≡ fits (row_layout (form_at n)) (drop 1 row) → w < 4294967296

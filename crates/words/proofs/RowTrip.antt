@@ -1,4 +1,7 @@
 -- Reading a word as a row and writing a row as a word undo each other.
+use Rattle.std.specs.Prelude.{Result}
+use Rattle.std.specs.Prelude.{Ok}
+use Rattle.replies.specs.declared.Refusal.{Refusal}
 use Prim.Native.Nat.{ℕ, zero, suc, ◌<◌, ◌/◌, ◌^◌}
 use mathlib.Core.Path.{◌≡◌, refl, sym, ap, ap₂, ◌∙◌}
 use mathlib.Core.Bool.{Bool, true, ◌&&◌}
@@ -13,10 +16,6 @@ use Rattle.words.specs.Layout.Piece.{fixed, field}
 use Rattle.words.specs.Words.{forms, form_at, numbers_of, form_of, fields_of, instruction_in, decode_of}
 use Rattle.words.specs.Rows.{padded, row_of, row_layout, written_in, encoded_as, reply_to, row_after, decoded_reply, decoded_row, reply_with, word_after, encoded_reply, encoded_word}
 use Rattle.words.specs.declared.Instruction.{Instruction}
-use Rattle.words.specs.declared.Decoded.{Decoded}
-use Rattle.words.specs.declared.Decoded.TheVariants as Dec
-use Rattle.words.specs.declared.Encoded.{Encoded}
-use Rattle.words.specs.declared.Encoded.TheVariants as Enc
 use Rattle.words.proofs.Codec.{both, and_pair, matches-place, cut-place}
 use Rattle.words.proofs.Placing.{span-up_to, row_formed}
 use Rattle.words.proofs.Table.{finds}
@@ -48,10 +47,10 @@ from-padded : {A : Type 0} (g : FromFields A) (m : ℕ) (xs : List ℕ) → from
 from-padded g m xs = applied-padded g.count m g.takes xs
 
 -- a word that is ours, read as a row, is written back as that word
-pub word_back : (w : ℕ) (i : Instruction) (word : ℕ) → w < 2 ^ 32 → decode_of w ≡ Dec.Ours i → (encoded_reply (row_of i) ≡ 0) × (encoded_word (row_of i) word ≡ w)
+pub word_back : (w : ℕ) (i : Instruction) (word : ℕ) → w < 2 ^ 32 → decode_of w ≡ Ok i → (encoded_reply (row_of i) ≡ 0) × (encoded_word (row_of i) word ≡ w)
 word_back w i word h e =
-    let p : encoded_as (row_of i) ≡ Enc.Word w = row_encoded i ∙ encode-decode w i h e in
-    (ap reply_with p, ap (λ (x : Encoded). word_after x word) p)
+    let p : encoded_as (row_of i) ≡ Ok w = row_encoded i ∙ encode-decode w i h e in
+    (ap reply_with p, ap (λ (x : Result ℕ Refusal). word_after x word) p)
 
 -- an instruction's row builds it
 first-padded : (m : ℕ) (xs : List ℕ) → get_or (padded m xs) 0 0 ≡ get_or xs 0 0
@@ -70,7 +69,7 @@ row_instruction i =
 
 -- a row that fits is the row of what its word is read as
 row_read : (n : ℕ) (xs : List ℕ) → n < length forms → from (form_at n).allowed xs ≡ true → fits (row_layout (form_at n)) xs ≡ true
-    → (i : Instruction) × (decode_of (place (row_layout (form_at n)) xs) ≡ Dec.Ours i) × (row_of i ≡ n ∷ xs)
+    → (i : Instruction) × (decode_of (place (row_layout (form_at n)) xs) ≡ Ok i) × (row_of i ≡ n ∷ xs)
 row_read n xs h a f =
     let ps : List Piece = (form_at n).layout in
     let w : ℕ = place (row_layout (form_at n)) xs in
@@ -83,16 +82,16 @@ row_read n xs h a f =
     )
 
 -- a row that is written as a word is read back as that row
-pub row_back : (row : List ℕ) (w : ℕ) (old : List ℕ) → encoded_as row ≡ Enc.Word w → (decoded_reply w ≡ 0) × (decoded_row w old ≡ row)
+pub row_back : (row : List ℕ) (w : ℕ) (old : List ℕ) → encoded_as row ≡ Ok w → (decoded_reply w ≡ 0) × (decoded_row w old ≡ row)
 unfolding fits
 row_back [] w old e =
     let z : ◌≡◌ {A = ℕ} 0 1 = cc in
     absurd (omega arith)
 row_back (n ∷ xs) w old e =
     let (l, c) = taken (ltb n (length forms)) (written_in (form_at n) xs) w e in
-    let (t, u) = taken (from (form_at n).allowed xs && fits (row_layout (form_at n)) xs) (Enc.Word (place (row_layout (form_at n)) xs)) w c in
+    let (t, u) = taken (from (form_at n).allowed xs && fits (row_layout (form_at n)) xs) (Ok (place (row_layout (form_at n)) xs)) w c in
     let v : place (row_layout (form_at n)) xs ≡ w = cc in
     let (a, f) = both (from (form_at n).allowed xs) (fits (row_layout (form_at n)) xs) t in
     let (i, p, q) = row_read n xs (ltb-true n (length forms) l) a f in
-    let d : decode_of w ≡ Dec.Ours i = ap decode_of (sym v) ∙ p in
-    (ap reply_to d, ap (λ (x : Decoded). row_after x old) d ∙ q)
+    let d : decode_of w ≡ Ok i = ap decode_of (sym v) ∙ p in
+    (ap reply_to d, ap (λ (x : Result Instruction Refusal). row_after x old) d ∙ q)

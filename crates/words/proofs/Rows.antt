@@ -1,4 +1,6 @@
 -- Rows: what each arm of the code answers.
+use Rattle.std.specs.Prelude.{Result}
+use Rattle.replies.specs.declared.Refusal.{Refusal}
 use Prim.Native.Nat.{ℕ}
 use mathlib.Core.Path.{◌≡◌, refl, sym, ap, ◌∙◌}
 use mathlib.Core.Bool.{Bool}
@@ -7,8 +9,6 @@ use Rattle.bits.specs.declared.Size.{Size}
 use Rattle.words.specs.Layout.{fits}
 use Rattle.words.specs.Words.{decode_of, encode_of}
 use Rattle.words.specs.Rows.{row_of, encoded_as, reply_to, row_after, decoded_reply, decoded_row, reply_with, word_after, encoded_reply, encoded_word}
-use Rattle.words.specs.declared.Decoded.{Decoded}
-use Rattle.words.specs.declared.Encoded.{Encoded}
 use Rattle.scalars.specs.declared.Condition.{Condition}
 use Rattle.words.specs.declared.Target.{Target}
 use Rattle.words.specs.declared.Target.TheVariants.{One, Pair, Counter}
@@ -49,14 +49,14 @@ row_encoded (RdffrPg pg pd) = refl
 row_encoded (RdffrsPg pg pd) = refl
 
 -- the answers that C has, once it is known what a word is, and how a row is written
-pub to_word : (w : ℕ) {n : ℕ} {d e : Decoded} → d ≡ decode_of w → d ≡ e → n ≡ reply_to e → n ≡ decoded_reply w
+pub to_word : (w : ℕ) {n : ℕ} {d e : Result Instruction Refusal} → d ≡ decode_of w → d ≡ e → n ≡ reply_to e → n ≡ decoded_reply w
 to_word w p q h = h ∙ ap reply_to (sym q ∙ p)
 
-pub after-word : (w : ℕ) (row : List ℕ) {left : List ℕ} {d e : Decoded} → d ≡ decode_of w → d ≡ e → left ≡ row_after e row → left ≡ decoded_row w row
-after-word w row p q h = h ∙ ap (λ (x : Decoded). row_after x row) (sym q ∙ p)
+pub after-word : (w : ℕ) (row : List ℕ) {left : List ℕ} {d e : Result Instruction Refusal} → d ≡ decode_of w → d ≡ e → left ≡ row_after e row → left ≡ decoded_row w row
+after-word w row p q h = h ∙ ap (λ (x : Result Instruction Refusal). row_after x row) (sym q ∙ p)
 
-pub to_row : (row : List ℕ) {n : ℕ} {d e : Encoded} → d ≡ encoded_as row → d ≡ e → n ≡ reply_with e → n ≡ encoded_reply row
+pub to_row : (row : List ℕ) {n : ℕ} {d e : Result ℕ Refusal} → d ≡ encoded_as row → d ≡ e → n ≡ reply_with e → n ≡ encoded_reply row
 to_row row p q h = h ∙ ap reply_with (sym q ∙ p)
 
-pub after-row : (row : List ℕ) (word : ℕ) {left : ℕ} {d e : Encoded} → d ≡ encoded_as row → d ≡ e → left ≡ word_after e word → left ≡ encoded_word row word
-after-row row word p q h = h ∙ ap (λ (x : Encoded). word_after x word) (sym q ∙ p)
+pub after-row : (row : List ℕ) (word : ℕ) {left : ℕ} {d e : Result ℕ Refusal} → d ≡ encoded_as row → d ≡ e → left ≡ word_after e word → left ≡ encoded_word row word
+after-row row word p q h = h ∙ ap (λ (x : Result ℕ Refusal). word_after x word) (sym q ∙ p)

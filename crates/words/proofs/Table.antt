@@ -1,4 +1,5 @@
 -- The table's rules, each computed once over all its rows: every layout is a whole word, well formed, begins with the opcode, and no two forms share a word.
+use Rattle.std.specs.Prelude.{Ok}
 use Prim.Native.Nat.{ℕ, zero, suc, ◌+◌, ◌*◌, ◌-◌, ◌<◌, ◌/◌, ◌%◌, ◌^◌}
 use mathlib.Core.Path.{◌≡◌, refl, sym, ap, ◌∙◌}
 use mathlib.Core.Bool.{Bool, true, false, ◌&&◌, false≢true}
@@ -12,7 +13,6 @@ use borrow.Author.Tests.{eqb-true, eq-eqb, ltb-true}
 use Rattle.words.specs.Layout.{Piece, span, slice, matches, cut, from}
 use Rattle.words.specs.Layout.Piece.{fixed, field}
 use Rattle.words.specs.Words.{flag, logic_has_word, Form, pfalse_form, forms, form_at, reads, instruction_in, has_opcode, read_by, decode_of}
-use Rattle.words.specs.declared.Decoded.TheVariants.{Ours}
 use Rattle.words.proofs.Codec.{both, and_pair, well_formed}
 use Rattle.words.proofs.Clash.{clash, apart}
 use Rattle.words.proofs.Reading.{tested, hit, skip}
@@ -108,7 +108,7 @@ first_apart g gs n w c l h k =
 rest_pairwise : (g : Form) (gs : List Form) → pairwise (g ∷ gs) ≡ true → pairwise gs ≡ true
 rest_pairwise g gs c = (both (every (λ (j : Form). clash g.layout j.layout 32) gs) (pairwise gs) c).1
 
-finds_in : (fs : List Form) (n w : ℕ) → pairwise fs ≡ true → n < length fs → reads (get_or fs n pfalse_form) w ≡ true → Ours (instruction_in (get_or fs n pfalse_form) w) ≡ read_by fs w
+finds_in : (fs : List Form) (n w : ℕ) → pairwise fs ≡ true → n < length fs → reads (get_or fs n pfalse_form) w ≡ true → Ok (instruction_in (get_or fs n pfalse_form) w) ≡ read_by fs w
 finds_in [] n w c l h = absurd (omega arith)
 finds_in (g ∷ gs) zero w c l h = hit g gs w (sym (tested g w)) h refl
 finds_in (g ∷ gs) (suc n) w c l h =
@@ -117,7 +117,7 @@ finds_in (g ∷ gs) (suc n) w c l h =
     (finds_in gs n w (rest_pairwise g gs c) (omega arith) h)
 
 -- a word of a form is read as that form
-pub finds : (n w : ℕ) → n < length forms → reads (form_at n) w ≡ true → Ours (instruction_in (form_at n) w) ≡ decode_of w
+pub finds : (n w : ℕ) → n < length forms → reads (form_at n) w ≡ true → Ok (instruction_in (form_at n) w) ≡ decode_of w
 finds n w l h = finds_in forms n w all_apart l h
 
 -- no two layouts share a word

@@ -1,11 +1,14 @@
 -- The table of words, and reading and writing by it.
+use Rattle.std.specs.Prelude.{Result}
+use Rattle.std.specs.Prelude.{Ok}
+use Rattle.replies.specs.declared.Refusal.{Refusal}
+use Rattle.std.specs.Prelude.{Err}
 use Rattle.std.specs.Prelude.{ℕ, zero, suc, ◌+◌, ◌*◌, ◌/◌, ◌%◌, Bool, true, false, not, ◌&&◌, List, [], ◌∷◌, eqb, get_or, drop}
 use Rattle.bits.specs.Choice.{pick, digit}
 use Rattle.bits.specs.Size.{shift}
 use Rattle.bits.specs.declared.Size.{Size}
 use Rattle.bits.specs.declared.Size.TheVariants as Sz
-use Rattle.replies.specs.declared.Reply.{Reply}
-use Rattle.replies.specs.declared.Reply.TheVariants.{ForeignWord, FieldPastRange, UnsupportedForm}
+use Rattle.replies.specs.declared.Refusal.TheVariants.{ForeignWord, FieldPastRange, UnsupportedForm}
 use Rattle.words.specs.Layout.{Piece, upper, matches, cut, fits, place, FromFields, given, always, from}
 use Rattle.words.specs.Layout.Piece.{fixed, field}
 use Rattle.words.specs.Fields.{opcode, size, sf, U, lt, eq, D, vl, op, S, o2, o3, Rm, Rn, Rd, Rdn, Pd, Pg, Pm, Pn, Pv, Pdn, PNd, PNn}
@@ -18,10 +21,6 @@ use Rattle.words.specs.declared.Operation.{Operation}
 use Rattle.words.specs.declared.Operation.TheVariants.{And, Bic, Eor, Sel, Orr, Orn, Nor, Nand}
 use Rattle.words.specs.declared.Instruction.{Instruction}
 use Rattle.words.specs.declared.Instruction.TheVariants.{While, Saturating, IncDec, Cntp, CntpCounter, Pnext, Pfirst, Ptest, Pfalse, Logic, Setffr, Wrffr, Rdffr, RdffrPg, RdffrsPg}
-use Rattle.words.specs.declared.Decoded.{Decoded}
-use Rattle.words.specs.declared.Decoded.TheVariants as Dec
-use Rattle.words.specs.declared.Encoded.{Encoded}
-use Rattle.words.specs.declared.Encoded.TheVariants as Enc
 
 -- a bit as a Bool, and size 00 to 11
 abbrev pub flag : ℕ → Bool
@@ -267,16 +266,16 @@ abbrev pub has_opcode : ℕ → Bool
 has_opcode w = matches (opcode ∷ field 24 ∷ []) w
 
 -- the reply to a word that is of none of the forms: 1 if its bits 31:24 are others, 13 if they are these
-abbrev pub refusal : ℕ → Reply
+abbrev pub refusal : ℕ → Refusal
 refusal w = pick (has_opcode w) UnsupportedForm ForeignWord
 
 -- w read by the first of the forms that it is a word of
-unfoldable pub read_by : List Form → ℕ → Decoded
-read_by [] w = Dec.Refused (refusal w)
-read_by (f ∷ fs) w = pick (reads f w) (Dec.Ours (instruction_in f w)) (read_by fs w)
+unfoldable pub read_by : List Form → ℕ → Result Instruction Refusal
+read_by [] w = Err (refusal w)
+read_by (f ∷ fs) w = pick (reads f w) (Ok (instruction_in f w)) (read_by fs w)
 
 -- what a word is
-abbrev pub decode_of : ℕ → Decoded
+abbrev pub decode_of : ℕ → Result Instruction Refusal
 decode_of w = read_by forms w
 
 -- an instruction's word, and whether its fields are within their ranges
@@ -287,8 +286,8 @@ abbrev pub in_range : Instruction → Bool
 in_range i = from (form_of i).allowed (fields_of i) && fits (form_of i).layout (fields_of i)
 
 -- how an instruction is written
-unfoldable pub encode_of : Instruction → Encoded
-encode_of i = pick (in_range i) (Enc.Word (word_of i)) (Enc.Refused FieldPastRange)
+unfoldable pub encode_of : Instruction → Result ℕ Refusal
+encode_of i = pick (in_range i) (Ok (word_of i)) (Err FieldPastRange)
 
 -- the level that an instruction asks
 abbrev pub level_of : Instruction → ℕ

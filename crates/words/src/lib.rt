@@ -8,7 +8,6 @@ ghost use Rattle.std.specs.Prelude.{◌≡◌};
 ghost use Rattle.words.specs.Words.{level_of, logic_has_word};
 
 use bits::Size;
-use replies::Reply;
 use scalars::Condition;
 
 mod read;
@@ -117,20 +116,6 @@ pub enum Instruction {
         pg: u8,
         pd: u8,
     },
-}
-
-// What a word is.
-#[derive(Clone, Copy)]
-pub enum Decoded {
-    Ours(Instruction),
-    Refused(Reply),
-}
-
-// How an instruction is written.
-#[derive(Clone, Copy)]
-pub enum Encoded {
-    Word(u32),
-    Refused(Reply),
 }
 
 // Whether logic has a word for an operation, given as op, o2 and o3 in one number: SEL has none that sets flags.

@@ -4,9 +4,9 @@ ghost use Rattle.words.specs.Layout.{slice};
 ghost use Rattle.words.specs.Words.{while_one_form, while_pair_form, while_counter_form, saturating_form, inc_dec_form, cntp_form, cntp_counter_form, pnext_form, pfirst_form, ptest_form, pfalse_form, logic_form, setffr_form, wrffr_form, rdffr_form, rdffr_pg_form, rdffrs_pg_form, condition_of, size_of, operation_bits, operation_of, flag, forms, instruction_in, has_opcode, read_by, decode_of};
 ghost use Rattle.words.specs.Inside.{tests};
 
-use super::{Decoded, Instruction, Operation, Target};
+use super::{Instruction, Operation, Target};
 use bits::Size;
-use replies::Reply;
+use replies::Refusal;
 use scalars::Condition;
 
 // Size 00 to 11; a larger number is taken for 11.
@@ -370,84 +370,84 @@ fn has_opcode(w: u32) -> bool
 }
 
 // The forms that count.
-fn decode_count(w: u32) -> Decoded
+fn decode_count(w: u32) -> Result<Instruction, Refusal>
     ensures { result ≡ read_by (drop 3 forms) w }
 {
     if is_saturating(w) {
-        return Decoded::Ours(read_saturating(w));
+        return Ok(read_saturating(w));
     }
     if is_inc_dec(w) {
-        return Decoded::Ours(read_inc_dec(w));
+        return Ok(read_inc_dec(w));
     }
     if is_cntp(w) {
-        return Decoded::Ours(read_cntp(w));
+        return Ok(read_cntp(w));
     }
     if is_cntp_counter(w) {
-        return Decoded::Ours(read_cntp_counter(w));
+        return Ok(read_cntp_counter(w));
     }
     decode_predicate(w)
 }
 
 // The forms on predicates alone.
-fn decode_predicate(w: u32) -> Decoded
+fn decode_predicate(w: u32) -> Result<Instruction, Refusal>
     ensures { result ≡ read_by (drop 7 forms) w }
 {
     if is_pnext(w) {
-        return Decoded::Ours(read_pnext(w));
+        return Ok(read_pnext(w));
     }
     if is_pfirst(w) {
-        return Decoded::Ours(read_pfirst(w));
+        return Ok(read_pfirst(w));
     }
     if is_ptest(w) {
-        return Decoded::Ours(read_ptest(w));
+        return Ok(read_ptest(w));
     }
     if is_pfalse(w) {
-        return Decoded::Ours(read_pfalse(w));
+        return Ok(read_pfalse(w));
     }
     if is_logic(w) {
-        return Decoded::Ours(read_logic(w));
+        return Ok(read_logic(w));
     }
     decode_ffr(w)
 }
 
 // The forms on FFR; no other form is ours.
-fn decode_ffr(w: u32) -> Decoded
+fn decode_ffr(w: u32) -> Result<Instruction, Refusal>
     ensures { result ≡ read_by (drop 12 forms) w }
 {
     if is_setffr(w) {
-        return Decoded::Ours(Instruction::Setffr);
+        return Ok(Instruction::Setffr);
     }
     if is_wrffr(w) {
-        return Decoded::Ours(read_wrffr(w));
+        return Ok(read_wrffr(w));
     }
     if is_rdffr(w) {
-        return Decoded::Ours(read_rdffr(w));
+        return Ok(read_rdffr(w));
     }
     if is_rdffr_pg(w) {
-        return Decoded::Ours(read_rdffr_pg(w));
+        return Ok(read_rdffr_pg(w));
     }
     if is_rdffrs_pg(w) {
-        return Decoded::Ours(read_rdffrs_pg(w));
+        return Ok(read_rdffrs_pg(w));
     }
     // Two returns: one, with a reply that is computed before it, would slow the reading of every word.
     if has_opcode(w) {
-        return Decoded::Refused(Reply::UnsupportedForm);
+        return Err(Refusal::UnsupportedForm);
     }
-    Decoded::Refused(Reply::ForeignWord)
+    Err(Refusal::ForeignWord)
 }
 
 // The instruction that a word is.
-pub fn decode(word: u32) -> Decoded
+pub fn decode(word: u32) -> Result<Instruction, Refusal>
     ensures { result ≡ decode_of word }
 {
     if is_while_one(word) {
-        return Decoded::Ours(read_while_one(word));
+        return Ok(read_while_one(word));
     }
     if is_while_pair(word) {
-        return Decoded::Ours(read_while_pair(word));
+        return Ok(read_while_pair(word));
     }
     if is_while_counter(word) {
-        return Decoded::Ours(read_while_counter(word));
+        return Ok(read_while_counter(word));
     }
     decode_count(word)
 }

@@ -5,9 +5,9 @@ ghost use Rattle.words.specs.Words.{forms, form_at, encode_of};
 ghost use Rattle.words.specs.Rows.{encoded_as, row_layout};
 ghost use Rattle.words.specs.Inside.{places_of};
 
+use super::Instruction;
 use super::row::row_of;
-use super::{Encoded, Instruction};
-use replies::Reply;
+use replies::Refusal;
 
 // The fixed bits of a form's word, and the lowest bit and width of each of its fields; a row's numbers past them have width 0.
 #[derive(Clone, Copy)]
@@ -170,15 +170,15 @@ fn from_bit(x: u8, low: u8) -> u64
 }
 
 // The word of a row: the form's fixed bits, and each number at its field's place.
-pub fn word_of(row: [u8; 9]) -> Encoded
+pub fn word_of(row: [u8; 9]) -> Result<u32, Refusal>
     ensures { result ≡ encoded_as row }
 {
     let form = row[0] as usize;
     if FORMS <= form {
-        return Encoded::Refused(Reply::FieldPastRange);
+        return Err(Refusal::FieldPastRange);
     }
     if !is_allowed(form, row) {
-        return Encoded::Refused(Reply::FieldPastRange);
+        return Err(Refusal::FieldPastRange);
     }
     let p = places_of(form);
     let low = p.low;
@@ -187,15 +187,15 @@ pub fn word_of(row: [u8; 9]) -> Encoded
     for k in 0..8 {
         let x = row[k + 1];
         if !is_within(x, width[k]) {
-            return Encoded::Refused(Reply::FieldPastRange);
+            return Err(Refusal::FieldPastRange);
         }
         word = word + from_bit(x, low[k]);
     }
-    Encoded::Word(word as u32)
+    Ok(word as u32)
 }
 
 // The word of an instruction whose fields are all within their ranges.
-pub fn encode(i: Instruction) -> Encoded
+pub fn encode(i: Instruction) -> Result<u32, Refusal>
     ensures { result ≡ encode_of i }
 {
     word_of(row_of(i))

@@ -1,7 +1,7 @@
 -- `plain` meets its contract: between two turns its locals are the plain walk with the count as its budget. Assumes nothing.
+use Rattle.std.specs.Prelude.{Ok}
 use Rattle.std.proofs.Common.{◌≡◌, ◌<◌, ℕ, List, length, not, sym, ap, refl, subst, arith, rules}
 use Rattle.bits.specs.declared.Size.{Size}
-use Rattle.replies.specs.declared.Reply.TheVariants.{Done}
 use Rattle.registers.specs.declared.State.{State}
 use Rattle.words.specs.Words.{size_of}
 use Rattle.walk.specs.Lengths.{Typed}
@@ -15,7 +15,7 @@ typed : (c : Start) → Typed c.args.start
 typed c = record { fits = search (rules, x_fits) }
 
 -- nothing is refused, at the size that the number names
-within : (size n m d k : ℕ) (s : State) (l : List ℕ) {z : Size} → Typed s → z ≡ size_of size → refusal_of size n m d k s (length l) ≡ Done → Within z n m d k s l
+within : (size n m d k : ℕ) (s : State) (l : List ℕ) {z : Size} → Typed s → z ≡ size_of size → refusal_of size n m d k s (length l) ≡ Ok tt → Within z n m d k s l
 within size n m d k s l t e q = subst (λ (z : Size). Within z n m d k s l) (sym e) (accepted_within size n m d k s l t q)
 
 -- the list has a place for the position that PNEXT has found
