@@ -34,13 +34,13 @@ use Rattle.machine.proofs.Frame.{untouched}
 use Rattle.machine.proofs.Steps.{pick_yes, pick_no, step-legal}
 
 -- a word that is refused is no instruction
-refused≢ours : {r : Reply} {i : Instruction} → Err r ≡ Ok i → ⊥
+refused≢ours : {r : Refusal} {i : Instruction} → Err r ≡ Ok i → ⊥
 refused≢ours e = let z : ◌≡◌ {A = ℕ} 0 1 = cc in omega arith
 
 -- ---- the reply of a legal state's step, from what the word is
 
 module _ (s : State) (w : ℕ) (ok : legal s ≡ true) where
-  refused_is : (r : Reply) → decode_of w ≡ Err r → step_of s w ≡ answered r s
+  refused_is : (r : Refusal) → decode_of w ≡ Err r → step_of s w ≡ answered (Err r) s
   unfolding after_word
   refused_is r h = step-legal s w ok ∙ ap (after_word s) h
 
@@ -70,8 +70,8 @@ illegal_is s w h = pick_no _ _ _ h
 -- a reply that the table gives is the step's
 pub given_reply : (s : State) (w : ℕ) (r : Reply) → Given s w r → (step_of s w).reply ≡ r
 given_reply s w (Err IllegalState) (illegal h) = ap (λ (t : Stepped). t.reply) (illegal_is s w h)
-given_reply s w (Err ForeignWord) (foreign ok h) = ap (λ (t : Stepped). t.reply) (refused_is s w ok (Err ForeignWord) ((foreign_read w).1 h))
-given_reply s w (Err UnsupportedForm) (unsupported ok h k) = ap (λ (t : Stepped). t.reply) (refused_is s w ok (Err UnsupportedForm) (unread w h k))
+given_reply s w (Err ForeignWord) (foreign ok h) = ap (λ (t : Stepped). t.reply) (refused_is s w ok ForeignWord ((foreign_read w).1 h))
+given_reply s w (Err UnsupportedForm) (unsupported ok h k) = ap (λ (t : Stepped). t.reply) (refused_is s w ok UnsupportedForm (unread w h k))
 given_reply s w (Err LevelTooLow) (low i ok h l) = ap (λ (t : Stepped). t.reply) (reply_is s w ok i h (Err LevelTooLow) (too_low s w ok i h l))
 given_reply s w (Err AccessOff) (off i ok h l a) = ap (λ (t : Stepped). t.reply) (reply_is s w ok i h (Err AccessOff) (by_access s w ok i h false a l))
 given_reply s w (Err NotMonotonic) (broken pn ok h l a m) = ap (λ (t : Stepped). t.reply) (reply_is s w ok (Wrffr pn) h (Err NotMonotonic) (by_value s w ok (Wrffr pn) h false m a l))
@@ -91,31 +91,31 @@ row : (s : State) (w : ℕ) → (r : Reply) × Given s w r
 row s w = by_legality (legal s) refl
   where
     by_value' : (i : Instruction) → legal s ≡ true → decode_of w ≡ Ok i → level_of i ≤ s.level → s.access ≡ true → (b : Bool) → accepts i (values_of s (registers_of i)) ≡ b → (r : Reply) × Given s w r
-    by_value' i ok h l a true m = ((Ok tt), done i ok h l a m)
+    by_value' i ok h l a true m = (Ok tt, done i ok h l a m)
     by_value' i ok h l a false m =
         let (pn, e, n) = refuses i (values_of s (registers_of i)) m in
         let same : read_p s (registers_of i).pn ≡ read_p s pn = ap (λ (k : Instruction). read_p s (registers_of k).pn) e in
-        ((Err NotMonotonic), broken pn ok (h ∙ ap Ok e) (let q : level_of i ≡ level_of (Wrffr pn) = ap level_of e in omega arith) a (sym (ap monotonic same) ∙ n))
+        (Err NotMonotonic, broken pn ok (h ∙ ap Ok e) (let q : level_of i ≡ level_of (Wrffr pn) = ap level_of e in omega arith) a (sym (ap monotonic same) ∙ n))
 
     by_access' : (i : Instruction) → legal s ≡ true → decode_of w ≡ Ok i → level_of i ≤ s.level → (b : Bool) → s.access ≡ b → (r : Reply) × Given s w r
     by_access' i ok h l true a = by_value' i ok h l a (accepts i (values_of s (registers_of i))) refl
-    by_access' i ok h l false a = ((Err AccessOff), off i ok h l a)
+    by_access' i ok h l false a = (Err AccessOff, off i ok h l a)
 
-    by_opcode : legal s ≡ true → (r : Reply) → decode_of w ≡ Err r → (b : Bool) → has_opcode w ≡ b → (r : Reply) × Given s w r
-    by_opcode ok r h true o = ((Err UnsupportedForm), unsupported ok o (λ i e. refused≢ours (sym h ∙ e)))
-    by_opcode ok r h false o = ((Err ForeignWord), foreign ok o)
+    by_opcode : legal s ≡ true → (r : Refusal) → decode_of w ≡ Err r → (b : Bool) → has_opcode w ≡ b → (r : Reply) × Given s w r
+    by_opcode ok r h true o = (Err UnsupportedForm, unsupported ok o (λ i e. refused≢ours (sym h ∙ e)))
+    by_opcode ok r h false o = (Err ForeignWord, foreign ok o)
 
     by_word : legal s ≡ true → (d : Result Instruction Refusal) → decode_of w ≡ d → (r : Reply) × Given s w r
     by_word ok (Err r) h = by_opcode ok r h (has_opcode w) refl
     by_word ok (Ok i) h =
         elim (dec_lt s.level (level_of i)) [
-          | yes l ↦ ((Err LevelTooLow), low i ok h l)
+          | yes l ↦ (Err LevelTooLow, low i ok h l)
           | no l ↦ by_access' i ok h (omega arith) s.access refl
         ]
 
     by_legality : (b : Bool) → legal s ≡ b → (r : Reply) × Given s w r
     by_legality true ok = by_word ok (decode_of w) refl
-    by_legality false bad = ((Err IllegalState), illegal bad)
+    by_legality false bad = (Err IllegalState, illegal bad)
 
 pub exactly_when : (s : State) (w : ℕ) (r : Reply) → ((step_of s w).reply ≡ r) ↔ Given s w r
 exactly_when s w r = (there, given_reply s w r)
@@ -167,8 +167,8 @@ refused-step s w h = let (r, g) = row s w in go r g
   where
     go : (r : Reply) → Given s w r → (step_of s w).state ≡ s
     go (Err IllegalState) (illegal b) = ap (λ (t : Stepped). t.state) (illegal_is s w b)
-    go (Err ForeignWord) (foreign ok b) = ap (λ (t : Stepped). t.state) (refused_is s w ok (Err ForeignWord) ((foreign_read w).1 b))
-    go (Err UnsupportedForm) (unsupported ok b k) = ap (λ (t : Stepped). t.state) (refused_is s w ok (Err UnsupportedForm) (unread w b k))
+    go (Err ForeignWord) (foreign ok b) = ap (λ (t : Stepped). t.state) (refused_is s w ok ForeignWord ((foreign_read w).1 b))
+    go (Err UnsupportedForm) (unsupported ok b k) = ap (λ (t : Stepped). t.state) (refused_is s w ok UnsupportedForm (unread w b k))
     go (Err LevelTooLow) (low i ok b l) = ap (λ (t : Stepped). t.state) (reply_is s w ok i b (Err LevelTooLow) (too_low s w ok i b l))
     go (Err AccessOff) (off i ok b l a) = ap (λ (t : Stepped). t.state) (reply_is s w ok i b (Err AccessOff) (by_access s w ok i b false a l))
     go (Err NotMonotonic) (broken pn ok b l a m) = ap (λ (t : Stepped). t.state) (reply_is s w ok (Wrffr pn) b (Err NotMonotonic) (by_value s w ok (Wrffr pn) b false m a l))

@@ -76,22 +76,30 @@ pub replied_in : (s : Settings) (f : List Bool) (x : List ℕ) (p c : List (List
     → ((u : Settings) → (g : List Bool) → v ≡ values_of (state_at u g x p c) q) → t ≡ accepts i v → r ≡ admission_of i s.level s.access t → r ≡ reply_of (state_at s f x p c) i
 replied_in s f x p c i q v t r hq hv ht hr = replied (state_at s f x p c) i q v t r hq (hv s f) ht hr
 
-module _ (s : State) (i : Instruction) (r : Reply) (b : Bool) (is : r ≡ reply_of s i) (done : b ≡ is_done r) where
-  at_reply : answered r (pick b (execute_of s i) s) ≡ after_word s (Ok i)
+module _ (s : State) (i : Instruction) (r : Reply) (is : r ≡ reply_of s i) where
+  at_reply : answered r (pick (is_done r) (execute_of s i) s) ≡ after_word s (Ok i)
   unfolding after_word
-  at_reply = ap (λ (t : Bool). answered r (pick t (execute_of s i) s)) done ∙ ap (λ (q : Reply). answered q (pick (is_done q) (execute_of s i) s)) is
+  at_reply = ap (λ (q : Reply). answered q (pick (is_done q) (execute_of s i) s)) is
 
-  pub stops : not b ≡ true → answered r s ≡ after_word s (Ok i)
-  stops h = ap (answered r) (sym (pick_no b (execute_of s i) s (not-true b h))) ∙ at_reply
+  pub stops : (e : Refusal) → r ≡ Err e → answered (Err e) s ≡ after_word s (Ok i)
+  stops e h = ap (λ (q : Reply). answered q (pick (is_done q) (execute_of s i) s)) (sym h) ∙ at_reply
 
-  pub goes : (t : State) → not b ≡ false → t ≡ execute_of s i → answered r t ≡ after_word s (Ok i)
-  goes t h e = ap (answered r) (e ∙ sym (pick_yes b (execute_of s i) s (not-false b h))) ∙ at_reply
+  -- a refusal passed on
+  pub passes : (q : Reply) (e : Refusal) → r ≡ Err e → q ≡ Err e → answered q s ≡ after_word s (Ok i)
+  passes q e h g = ap (λ (z : Reply). answered z s) g ∙ stops e h
+
+  pub goes : (t : State) → r ≡ Ok tt → t ≡ execute_of s i → answered (Ok tt) t ≡ after_word s (Ok i)
+  goes t h e = ap (answered (Ok tt)) e ∙ ap (λ (q : Reply). answered q (pick (is_done q) (execute_of s i) s)) (sym h) ∙ at_reply
 
 -- ---- a word, by what it is
 
-pub word-refused : (s : State) (w : ℕ) (d : Result Instruction Refusal) (r : Reply) → d ≡ decode_of w → d ≡ Err r → answered r s ≡ after_word s (decode_of w)
+pub word-refused : (s : State) (w : ℕ) (d : Result Instruction Refusal) (r : Refusal) → d ≡ decode_of w → d ≡ Err r → answered (Err r) s ≡ after_word s (decode_of w)
 unfolding after_word
 word-refused s w d r hd h = sym (ap (after_word s) (sym hd ∙ h))
+
+-- the same, passed on
+pub word_passed : (s : State) (w : ℕ) (d : Result Instruction Refusal) (q : Reply) (r : Refusal) → d ≡ decode_of w → d ≡ Err r → q ≡ Err r → answered q s ≡ after_word s (decode_of w)
+word_passed s w d q r hd h g = ap (λ (z : Reply). answered z s) g ∙ word-refused s w d r hd h
 
 pub word_ours : (s : State) (w : ℕ) (d : Result Instruction Refusal) (i : Instruction) (t : Stepped) → d ≡ decode_of w → d ≡ Ok i → t ≡ after_word s (Ok i) → t ≡ after_word s (decode_of w)
 word_ours s w d i t hd h e = e ∙ sym (ap (after_word s) (sym hd ∙ h))
@@ -134,7 +142,7 @@ module _ (s : Settings) (f : List Bool) (x : List ℕ) (p c : List (List ℕ)) (
 
 pub after_kept : (s : State) (d : Result Instruction Refusal) → legal s ≡ true → legal (after_word s d).state ≡ true
 unfolding after_word
-after_kept s (Err r) k = k
+after_kept s (Err e) k = k
 after_kept s (Ok i) k = go (is_done (reply_of s i))
   where
     go : (b : Bool) → legal (pick b (execute_of s i) s) ≡ true
@@ -170,15 +178,17 @@ module _ (ws : List ℕ) (s : State) (r : Ran) (done : ℕ) (ok : legal s ≡ tr
   pub run_ends : length ws ≤ done → record { reply = Ok tt; refused = Ok tt; done = done; state = s } ≡ r
   run_ends h = words_end ws s done h ∙ inv
 
-  module _ (reply : Reply) (t : State) (b : Bool) (below : done < length ws) (is : answered reply t ≡ after_word s (decode_of (get_or ws done 0))) (told : b ≡ is_done reply) where
+  module _ (reply : Reply) (t : State) (below : done < length ws) (is : answered reply t ≡ after_word s (decode_of (get_or ws done 0))) where
     stepped : answered reply t ≡ step_of s (get_or ws done 0)
     stepped = is ∙ sym (step-legal s (get_or ws done 0) ok)
 
-    pub run_stops : not b ≡ true → record { reply = Ok tt; refused = reply; done = done; state = t } ≡ r
-    run_stops h = words_stop ws s done (answered reply t) b below stepped told h ∙ inv
+    pub run_stops : (e : Refusal) → reply ≡ Err e → record { reply = Ok tt; refused = Err e; done = done; state = t } ≡ r
+    run_stops e h =
+        ap (λ (q : Reply). record { reply = Ok tt; refused = q; done = done; state = t }) (sym h)
+        ∙ words_stop ws s done (answered reply t) (is_done reply) below stepped refl (ap (λ (q : Reply). not (is_done q)) h) ∙ inv
 
-    pub run_on : not b ≡ false → steps_of (done + 1) t (drop (done + 1) ws) ≡ r
-    run_on h = words_on ws s done (answered reply t) b below stepped told h ∙ inv
+    pub run_on : reply ≡ Ok tt → steps_of (done + 1) t (drop (done + 1) ws) ≡ r
+    run_on h = words_on ws s done (answered reply t) (is_done reply) below stepped refl (ap (λ (q : Reply). not (is_done q)) h) ∙ inv
 
 -- the same of an answer
 pub kept_on : (s : State) (d : Result Instruction Refusal) (t : Stepped) → legal s ≡ true → t ≡ after_word s d → legal t.state ≡ true

@@ -1,5 +1,5 @@
 // The machine over lent registers: nothing is copied.
-ghost use Rattle.std.specs.Prelude.{◌≡◌, Bool, List};
+ghost use Rattle.std.specs.Prelude.{◌≡◌, Bool, List, Ok};
 ghost use Rattle.registers.specs.declared.parts.Settings.{Settings};
 ghost use Rattle.registers.specs.Parts.{state_at};
 ghost use Rattle.words.specs.Words.{decode_of};
@@ -9,8 +9,8 @@ ghost use Rattle.machine.specs.Step.{after_word, step_of, run_of, answered};
 
 use instructions::{Computed, Registers, Values};
 use registers::parts::Settings;
-use replies::Reply;
-use words::{Decoded, Instruction};
+use replies::{Refusal, Reply};
+use words::Instruction;
 
 // What the registers hold that an instruction reads.
 fn read(x: &[u64], p: &[[u64; 4]], counts: &[[u16; 4]], r: Registers) -> Values
@@ -61,18 +61,15 @@ fn attempt(
     counts: &mut [[u16; 4]],
     i: Instruction,
 ) -> Reply
-    ensures { answered result (state_at settings flags.new x.new p.new counts.new) ≡ after_word (state_at settings flags.old x.old p.old counts.old) (Decoded.Ours i) }
+    ensures { answered result (state_at settings flags.new x.new p.new counts.new) ≡ after_word (state_at settings flags.old x.old p.old counts.old) (Ok i) }
 {
     let r = instructions::registers_of(i);
     let v = read(x, p, counts, r);
     let accepted = instructions::accepts(i, v);
-    let reply = super::admission(i, settings.level, settings.access, accepted);
-    if !reply.is_done() {
-        return reply;
-    }
+    super::admission(i, settings.level, settings.access, accepted)?;
     let e = instructions::compute(i, v, settings.vl);
     write(settings, flags, x, p, counts, r, e);
-    reply
+    Ok(())
 }
 
 // A step of a state that is known to be legal.
@@ -86,11 +83,8 @@ fn next(
 ) -> Reply
     ensures { answered result (state_at settings flags.new x.new p.new counts.new) ≡ after_word (state_at settings flags.old x.old p.old counts.old) (decode_of word) }
 {
-    let decoded = words::decode(word);
-    match decoded {
-        Decoded::Refused(reply) => reply,
-        Decoded::Ours(i) => attempt(settings, flags, x, p, counts, i),
-    }
+    let i = words::decode(word)?;
+    attempt(settings, flags, x, p, counts, i)
 }
 
 // One step: the reply, with the registers changed where they stand, or as they were if the word is refused.
@@ -105,7 +99,7 @@ pub fn step(
     ensures { answered result (state_at settings flags.new x.new p.new counts.new) ≡ step_of (state_at settings flags.old x.old p.old counts.old) word }
 {
     if !registers::parts::is_legal(settings, x, p, counts) {
-        return Reply::IllegalState;
+        return Err(Refusal::IllegalState);
     }
     next(settings, flags, x, p, counts, word)
 }
@@ -129,28 +123,25 @@ pub fn run(
 ) -> Went
     ensures { record { reply = result.reply; refused = result.refused; done = result.done; state = state_at settings flags.new x.new p.new counts.new } ≡ run_of (state_at settings flags.old x.old p.old counts.old) words.now }
 {
-    let mut done = 0;
     if !registers::parts::is_legal(settings, x, p, counts) {
         return Went {
-            reply: Reply::IllegalState,
-            refused: Reply::Done,
-            done,
+            reply: Err(Refusal::IllegalState),
+            refused: Ok(()),
+            done: 0,
         };
     }
-    while done < words.len() {
-        let refused = next(settings, flags, x, p, counts, words[done]);
-        if !refused.is_done() {
+    for (done, &word) in words.iter().enumerate() {
+        if let Err(refusal) = next(settings, flags, x, p, counts, word) {
             return Went {
-                reply: Reply::Done,
-                refused,
+                reply: Ok(()),
+                refused: Err(refusal),
                 done,
             };
         }
-        done += 1;
     }
     Went {
-        reply: Reply::Done,
-        refused: Reply::Done,
-        done,
+        reply: Ok(()),
+        refused: Ok(()),
+        done: words.len(),
     }
 }

@@ -5,7 +5,7 @@
 // reply to the word it stopped at.
 #![tactic(auto)]
 
-ghost use Rattle.std.specs.Prelude.{◌≡◌};
+ghost use Rattle.std.specs.Prelude.{◌≡◌, Ok};
 ghost use Rattle.bits.specs.Choice.{pick};
 ghost use Rattle.predicates.specs.PredTest.{flags_of};
 ghost use Rattle.registers.specs.State.{with_flags};
@@ -18,8 +18,8 @@ pub mod engine;
 use instructions::{Computed, Registers, Values};
 use predicates::Flags;
 use registers::State;
-use replies::Reply;
-use words::{Decoded, Instruction};
+use replies::{Refusal, Reply};
+use words::Instruction;
 
 #[derive(Clone, Copy)]
 pub struct Stepped {
@@ -50,14 +50,16 @@ impl Machine {
         let state = self.state;
         if !state.is_legal() {
             return Stepped {
-                reply: Reply::IllegalState,
+                reply: Err(Refusal::IllegalState),
                 state,
             };
         }
-        let decoded = words::decode(word);
-        match decoded {
-            Decoded::Refused(reply) => Stepped { reply, state },
-            Decoded::Ours(i) => attempt(state, i),
+        match words::decode(word) {
+            Err(refusal) => Stepped {
+                reply: Err(refusal),
+                state,
+            },
+            Ok(i) => attempt(state, i),
         }
     }
 
@@ -76,46 +78,49 @@ impl Machine {
         let mut counts = registers::parts::numbers_of(kept);
         let went = engine::run(settings, &mut flags, &mut x, &mut p, &mut counts, words);
         let next = registers::parts::state_of(settings, flags, x, p, counts);
-        let reply = went.reply;
-        let refused = went.refused;
         Ran {
-            reply,
-            refused,
+            reply: went.reply,
+            refused: went.refused,
             done: went.done,
             state: next,
         }
     }
 }
 
-// The refusals 2, 3 and 14, in this order, or `Done`.
+// The refusals 2, 3 and 14, in this order.
 fn admission(i: Instruction, level: u8, access: bool, accepted: bool) -> Reply
     ensures { result ≡ admission_of i level access accepted }
 {
     if level < words::level(i) {
-        return Reply::LevelTooLow;
+        return Err(Refusal::LevelTooLow);
     }
     if !access {
-        return Reply::AccessOff;
+        return Err(Refusal::AccessOff);
     }
     if !accepted {
-        return Reply::NotMonotonic;
+        return Err(Refusal::NotMonotonic);
     }
-    Reply::Done
+    Ok(())
 }
 
 // An instruction that the state may refuse. All registers are read before any is written.
 fn attempt(state: State, i: Instruction) -> Stepped
-    ensures { result ≡ after_word state (Decoded.Ours i) }
+    ensures { result ≡ after_word state (Ok i) }
 {
     let r = instructions::registers_of(i);
     let v = values(state, r);
     let accepted = instructions::accepts(i, v);
-    let reply = admission(i, state.level, state.access, accepted);
-    if !reply.is_done() {
-        return Stepped { reply, state };
+    if let Err(refusal) = admission(i, state.level, state.access, accepted) {
+        return Stepped {
+            reply: Err(refusal),
+            state,
+        };
     }
     let next = apply(state, r, instructions::compute(i, v, state.vl));
-    Stepped { reply, state: next }
+    Stepped {
+        reply: Ok(()),
+        state: next,
+    }
 }
 
 fn values(state: State, r: Registers) -> Values

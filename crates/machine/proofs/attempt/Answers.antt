@@ -4,8 +4,8 @@ use Rattle.machine.proofs.Steps.{replied, stops, goes}
 use borrow.Author.Rules.{rules}
 use Rattle.machine.proofs.attempt.Goals as goal
 
-pub returns-then-not-is_done : goal.returns-then-not-is_done
-returns-then-not-is_done c = search (stops, replied, rules) depth 9
+pub returns-in-Err : goal.returns-in-Err
+returns-in-Err c = search (stops, replied, c.in-Err.is, rules) depth 9
 
 pub returns : goal.returns
 returns c = search (goes, replied, executes, rules) depth 9
