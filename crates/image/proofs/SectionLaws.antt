@@ -1,6 +1,6 @@
 -- Laws of sections: what the code finds of one by its number, which fault answers, and what a section without one has. Assumes nothing.
-use Rattle.replies.specs.Reply.{Reply, number_of, is_done}
-use Rattle.std.specs.Prelude.{Ok, Err}
+use Rattle.replies.specs.Reply.{Reply}
+use Rattle.std.specs.Prelude.{Result, Ok, Err}
 use mathlib.Core.Bool.{Bool, true, false, not, ◌&&◌, ◌||◌}
 use mathlib.Core.List.{List, [], ◌∷◌}
 use mathlib.Core.Path.{◌≡◌, refl, sym, ap, ap₂, ◌∙◌}
@@ -8,18 +8,18 @@ use Prim.Native.Nat.{ℕ, zero, suc, ◌+◌, ◌*◌, ◌/◌, ◌≤◌, ◌<�
 use native.Mathlib.Nat.{le_antisymm, le_trans, mul-le-mul, mul-le-mul_right}
 use native.Mathlib.Numerals.{add-one}
 use native.Mathlib.Omega.{arith}
-use lib.Dec.{ltb, leb, eqb, lit<, lit≤}
+use lib.Dec.{ltb, leb, eqb, lit≤}
 use lib.ListN.{length, take, drop, get_or, length-take}
 use lib.Seq.{drop-cons}
-use borrow.Author.Tests.{lt-ltb, le-ltb, ltb-false, eqb-true, not-true, not-false}
+use borrow.Author.Tests.{lt-ltb, le-ltb, ltb-false, not-false}
 use mir.Syntax.{w8}
 use mir.Val.{Fits}
 use Rattle.bits.specs.Choice.{pick}
 use Rattle.bits.specs.Search.{some}
 use Rattle.bits.proofs.Searches.{never, some_yes, some_no, some-none}
 use Rattle.octets.proofs.Bytes.{bytes_of, bytes_take, value-below}
+use Rattle.replies.specs.declared.Refusal.{Refusal}
 use Rattle.replies.specs.declared.Refusal.TheVariants as R
-use Rattle.replies.proofs.Replies.{number_done}
 use Rattle.registers.specs.Legal.{settings_allowed}
 use Rattle.image.specs.declared.sections.Shape.{Shape}
 use Rattle.image.specs.Sections.{Section, setting, sections, section_at, shape_of, count_of, content_of, is_missing, after, has_wrong, section_reply, or_else, sections_reply, start_of}
@@ -165,42 +165,32 @@ module _ (s : Section) (content : List ℕ) where
 
 -- ---- the first fault answers
 
-pub first_fault : (f g b : Reply) (t : Bool) → f ≡ g → t ≡ is_done f → not t ≡ true → f ≡ or_else g b
+pub first_fault : {A : Type 0} (f g : Reply) (b a : Result A Refusal) (r : Refusal) → f ≡ g → f ≡ Err r → a ≡ Err r → a ≡ or_else g b
 unfolding or_else
-first_fault f g b t e d h = rw (← e, ← d, not-true t h)
+first_fault f g b a r e d h = rw (h, ← e, d)
 
-pub no_fault : (f g b : Reply) (t : Bool) → f ≡ g → t ≡ is_done f → not t ≡ false → b ≡ or_else g b
-unfolding or_else
-no_fault f g b t e d h = rw (← e, ← d, not-false t h)
-
-pub is_done_lem : (f : Reply) → is_done f ≡ true → f ≡ Ok tt
-is_done_lem f e = number_done f (eqb-true (number_of f) 0 e)
-
-pub next : (g b : Reply) → g ≡ Ok tt → or_else g b ≡ b
+pub next : {A : Type 0} (g : Reply) (b : Result A Refusal) → g ≡ Ok tt → or_else g b ≡ b
 unfolding or_else
 next g b e = rw e
 
 pub both_done : (a b : Reply) → or_else a b ≡ Ok tt → (a ≡ Ok tt) × (b ≡ Ok tt)
 unfolding or_else
-both_done a b e = go (is_done a) refl e
-  where
-    go : (t : Bool) → is_done a ≡ t → pick t b a ≡ Ok tt → (a ≡ Ok tt) × (b ≡ Ok tt)
-    go true d h = (is_done_lem a d, h)
-    go false d h = never (ap is_done h) d
+both_done (Ok tt) b e = (refl, e)
+both_done (Err r) b e = absurd (cc)
 
 -- a choice that is done did not refuse
-pub not-refused : (t : Bool) (f k : Reply) → 0 < number_of f → pick t f k ≡ Ok tt → (t ≡ false) × (k ≡ Ok tt)
-not-refused true f k h e = absurd (let z = ap number_of e in omega arith)
-not-refused false f k h e = (refl, e)
+pub not-refused : (t : Bool) (r : Refusal) (k : Reply) → pick t (Err r) k ≡ Ok tt → (t ≡ false) × (k ≡ Ok tt)
+not-refused true r k e = absurd (cc)
+not-refused false r k e = (refl, e)
 
 -- ---- one section, as the code tests it
 
 module _ (s : Section) (rest : List ℕ) where
-  pub fault_cut : length rest < 4 → (Err R.ImageCut) ≡ section_reply s rest
+  pub fault_cut : length rest < 4 → Err R.ImageCut ≡ section_reply s rest
   unfolding section_reply
   fault_cut h = rw (lt-ltb _ _ h)
 
-  pub fault_missing : (t : Bool) → t ≡ is_missing s rest → t ≡ true → 4 ≤ length rest → (Ok tt) ≡ section_reply s rest
+  pub fault_missing : (t : Bool) → t ≡ is_missing s rest → t ≡ true → 4 ≤ length rest → Ok tt ≡ section_reply s rest
   unfolding section_reply
   fault_missing t et m h = rw (le-ltb _ _ h, ← et, m)
 
@@ -217,25 +207,25 @@ module _ (s : Section) (rest : List ℕ) where
     bytes : s.item ≡ shape.item
     bytes = sym (ap (λ (x : Shape). x.item) es)
 
-    pub fault_low : n < shape.lowest → (Err R.NotAllowed) ≡ section_reply s rest
+    pub fault_low : n < shape.lowest → Err R.NotAllowed ≡ section_reply s rest
     unfolding section_reply
     fault_low l = rw (there, ← en, low, le-ltb _ _ h, lt-ltb _ _ l)
 
-    pub fault_high : shape.lowest ≤ n → shape.highest < n → (Err R.NotAllowed) ≡ section_reply s rest
+    pub fault_high : shape.lowest ≤ n → shape.highest < n → Err R.NotAllowed ≡ section_reply s rest
     unfolding section_reply
     fault_high l g = rw (there, ← en, low, high, le-ltb _ _ h, le-ltb _ _ l, lt-ltb _ _ g)
 
     module _ (l : shape.lowest ≤ n) (g : n ≤ shape.highest) where
-      pub fault_short : length rest < 4 + n * shape.item → (Err R.ImageCut) ≡ section_reply s rest
+      pub fault_short : length rest < 4 + n * shape.item → Err R.ImageCut ≡ section_reply s rest
       unfolding section_reply
       fault_short k = rw (there, ← en, low, high, bytes, le-ltb _ _ h, le-ltb _ _ l, le-ltb _ _ g, lt-ltb _ _ k)
 
       module _ (content : List ℕ) (t : Bool) (k : 4 + n * shape.item ≤ length rest) (ec : content ≡ content_of rest) (et : t ≡ has_wrong s content (n * shape.item)) where
-        pub fault_wrong : t ≡ true → (Err R.NotAllowed) ≡ section_reply s rest
+        pub fault_wrong : t ≡ true → Err R.NotAllowed ≡ section_reply s rest
         unfolding section_reply
         fault_wrong w = rw (there, ← en, low, high, bytes, le-ltb _ _ h, le-ltb _ _ l, le-ltb _ _ g, le-ltb _ _ k, ← ec, ← et, w)
 
-        pub fault_none : t ≡ false → (Ok tt) ≡ section_reply s rest
+        pub fault_none : t ≡ false → Ok tt ≡ section_reply s rest
         unfolding section_reply
         fault_none w = rw (there, ← en, low, high, bytes, le-ltb _ _ h, le-ltb _ _ l, le-ltb _ _ g, le-ltb _ _ k, ← ec, ← et, w)
 
@@ -254,10 +244,10 @@ neither true b e = never refl e
 pub whole : (s : Section) (rest : List ℕ) → is_missing s rest ≡ false → section_reply s rest ≡ Ok tt → Whole s rest
 unfolding section_reply
 whole s rest m e =
-    let a = not-refused (ltb (length rest) 4) (Err R.ImageCut) _ (lit< tt) e in
-    let b = not-refused (ltb (count_of rest) s.lowest || ltb s.highest (count_of rest)) (Err R.NotAllowed) _ (lit< tt) (rw m at a.1) in
-    let c = not-refused (ltb (length rest) (4 + count_of rest * s.item)) (Err R.ImageCut) _ (lit< tt) b.1 in
-    let d = not-refused (has_wrong s (content_of rest) (count_of rest * s.item)) (Err R.NotAllowed) (Ok tt) (lit< tt) c.1 in
+    let a = not-refused (ltb (length rest) 4) R.ImageCut _ e in
+    let b = not-refused (ltb (count_of rest) s.lowest || ltb s.highest (count_of rest)) R.NotAllowed _ (rw m at a.1) in
+    let c = not-refused (ltb (length rest) (4 + count_of rest * s.item)) R.ImageCut _ b.1 in
+    let d = not-refused (has_wrong s (content_of rest) (count_of rest * s.item)) R.NotAllowed (Ok tt) c.1 in
     let f = neither (ltb (count_of rest) s.lowest) (ltb s.highest (count_of rest)) b.0 in
     record {
       present = m;
@@ -303,16 +293,16 @@ module _ (vl : ℕ) (i : ℕ) (l : i < 6) where
   pub here : drop i (sections vl) ≡ section_at (sections vl) i ∷ drop (suc i) (sections vl)
   here = drop-cons (sections vl) i _ (rw sections_six l)
 
-  pub refused_here : (rest : List ℕ) (f : Reply) (t : Bool) → f ≡ section_reply (section_at (sections vl) i) rest → t ≡ is_done f → not t ≡ true
-      → f ≡ sections_reply (drop i (sections vl)) rest
+  pub refused_here : (rest : List ℕ) (f a : Reply) (r : Refusal) → f ≡ section_reply (section_at (sections vl) i) rest → f ≡ Err r → a ≡ Err r
+      → a ≡ sections_reply (drop i (sections vl)) rest
   unfolding sections_reply
-  refused_here rest f t e d h = rw here (first_fault f _ _ t e d h)
+  refused_here rest f a r e d h = rw here (first_fault f _ _ a r e d h)
 
-  pub passed_on : (image rest past : List ℕ) (f : Reply) (t : Bool) → f ≡ section_reply (section_at (sections vl) i) rest → t ≡ is_done f → not t ≡ false
+  pub passed_on : (image rest past : List ℕ) (f : Reply) → f ≡ section_reply (section_at (sections vl) i) rest → f ≡ Ok tt
       → past ≡ after (section_at (sections vl) i) rest → sections_reply (drop i (sections vl)) rest ≡ sections_reply (sections vl) image
       → sections_reply (drop (i + 1) (sections vl)) past ≡ sections_reply (sections vl) image
   unfolding sections_reply
-  passed_on image rest past f t e d h p k = rw (add-one, p) (no_fault f _ _ t e d h) ∙ sym (ap (λ (l : List Section). sections_reply l rest) here) ∙ k
+  passed_on image rest past f e d p k = rw (add-one, p) (sym (next _ _ (sym e ∙ d))) ∙ sym (ap (λ (l : List Section). sections_reply l rest) here) ∙ k
 
 module _ (vl : ℕ) (i : ℕ) (l : 6 ≤ i) (rest : List ℕ) where
   none_left : (k : ℕ) (ss : List Section) → length ss ≤ k → drop k ss ≡ []
@@ -321,10 +311,10 @@ module _ (vl : ℕ) (i : ℕ) (l : 6 ≤ i) (rest : List ℕ) where
   none_left (suc k) [] h = refl
   none_left (suc k) (s ∷ ss) h = none_left k ss (omega arith)
 
-  pub bytes_left : 0 < length rest → (Err R.TrailingBytes) ≡ sections_reply (drop i (sections vl)) rest
+  pub bytes_left : 0 < length rest → Err R.TrailingBytes ≡ sections_reply (drop i (sections vl)) rest
   unfolding sections_reply
   bytes_left h = rw (none_left i (sections vl) (rw sections_six l), lt-ltb _ _ h)
 
-  pub no_bytes_left : length rest ≤ 0 → (Ok tt) ≡ sections_reply (drop i (sections vl)) rest
+  pub no_bytes_left : length rest ≤ 0 → Ok tt ≡ sections_reply (drop i (sections vl)) rest
   unfolding sections_reply
   no_bytes_left h = rw (none_left i (sections vl) (rw sections_six l), le-ltb _ _ h)

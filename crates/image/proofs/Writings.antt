@@ -1,5 +1,5 @@
 -- What a writing answers, and how long an image is. Assumes nothing.
-use Rattle.replies.specs.Reply.{Reply, number_of}
+use Rattle.replies.specs.Reply.{Reply}
 use Rattle.std.specs.Prelude.{Ok, Err}
 use mathlib.Core.Bool.{Bool, true, false, not}
 use mathlib.Core.List.{List, [], ◌∷◌, ◌++◌}
@@ -9,22 +9,22 @@ use native.Mathlib.Omega.{arith}
 use lib.Dec.{lit≤}
 use lib.ListN.{length, take, drop, get_or, length-append}
 use lib.Seq.{sets, length-take-le, drop-cons, get_or-take, get_or-drop}
-use borrow.Author.Tests.{lt-ltb, le-ltb, ne_eqb}
+use borrow.Author.Tests.{lt-ltb, le-ltb}
 use Rattle.bits.specs.Choice.{pick, digit}
 use Rattle.bits.proofs.Searches.{never}
 use Rattle.octets.specs.Bytes.{le, joined}
 use Rattle.octets.proofs.Bytes.{length-le, length-joined, put_turn, sets_append, sets_over}
 use Rattle.predicates.specs.declared.Flags.{Flags}
 use Rattle.predicates.specs.declared.Predicate.{Predicate}
+use Rattle.replies.specs.declared.Refusal.{Refusal}
 use Rattle.replies.specs.declared.Refusal.TheVariants as R
 use Rattle.registers.specs.declared.State.{State}
 use Rattle.registers.specs.Legal.{legal, illegal}
 use Rattle.registers.specs.State.{all_false, ffr, read_p}
 use Rattle.registers.proofs.Legality.{legal_has, quads}
 use Rattle.registers.proofs.Registers.{Sized}
-use Rattle.image.specs.declared.Written.{Written}
 use Rattle.image.specs.declared.sections.Shape.{Shape}
-use Rattle.image.specs.Sections.{sections, section_at, shape_of, bytes_of, image_length, largest_image}
+use Rattle.image.specs.Sections.{sections, section_at, shape_of, bytes_of, image_length, largest_image, or_else}
 use Rattle.image.specs.Image.{section, setting_items, predicate_bytes, flag_items, image_of}
 use Rattle.image.specs.Writing.{write_reply, written_of, buffer_after}
 use Rattle.image.proofs.PredicateBytes.{length_bytes}
@@ -179,33 +179,32 @@ lawful s true e h = sym e
 lawful s false e h = never refl h
 
 module _ (s : State) (ws : List ℕ) (room : ℕ) where
-  pub reply_illegal : (t : Bool) → t ≡ legal s → not t ≡ true → (Err R.IllegalState) ≡ write_reply s ws room
+  pub reply_illegal : (t : Bool) → t ≡ legal s → not t ≡ true → Err R.IllegalState ≡ write_reply s ws room
   unfolding write_reply
   reply_illegal t e h = chosen (illegal s) (Err R.IllegalState) _ (ap not (sym e) ∙ h)
 
-  pub reply_many : legal s ≡ true → 4096 < length ws → (Err R.NotAllowed) ≡ write_reply s ws room
+  pub reply_many : legal s ≡ true → 4096 < length ws → Err R.NotAllowed ≡ write_reply s ws room
   unfolding write_reply
   reply_many h l = sym (skipped (illegal s) (Err R.IllegalState) _ h ∙ rw (lt-ltb _ _ l))
 
-  pub reply_small : legal s ≡ true → length ws ≤ 4096 → room < length (image_of s ws) → (Err R.BufferTooSmall) ≡ write_reply s ws room
+  pub reply_small : legal s ≡ true → length ws ≤ 4096 → room < length (image_of s ws) → Err R.BufferTooSmall ≡ write_reply s ws room
   unfolding write_reply
   reply_small h l r = sym (skipped (illegal s) (Err R.IllegalState) _ h ∙ rw (le-ltb _ _ l, lt-ltb _ _ r))
 
-  pub reply_done : legal s ≡ true → length ws ≤ 4096 → length (image_of s ws) ≤ room → (Ok tt) ≡ write_reply s ws room
+  pub reply_done : legal s ≡ true → length ws ≤ 4096 → length (image_of s ws) ≤ room → Ok tt ≡ write_reply s ws room
   unfolding write_reply
   reply_done h l r = sym (skipped (illegal s) (Err R.IllegalState) _ h ∙ rw (le-ltb _ _ l, le-ltb _ _ r))
 
 -- ---- the answer and the buffer
 
 module _ (s : State) (ws buffer : List ℕ) where
-  pub answer-refused : (f : Reply) (w : Written) → f ≡ write_reply s ws (length buffer) → (number_of f ≡ 0 → ⊥) → w ≡ record { reply = f; length = 0 }
-      → (w ≡ written_of s ws (length buffer)) × (buffer ≡ buffer_after s ws buffer)
-  unfolding written_of buffer_after
-  answer-refused f w e h ew = (rw (← e, ne_eqb (number_of f) 0 h) ew, rw (← e, ne_eqb (number_of f) 0 h))
+  pub answer-refused : (r : Refusal) → Err r ≡ write_reply s ws (length buffer) → (Err r ≡ written_of s ws (length buffer)) × (buffer ≡ buffer_after s ws buffer)
+  unfolding written_of buffer_after or_else
+  answer-refused r e = (rw (← e), rw (← e))
 
   pub answer_done : (after : List ℕ) (n : ℕ) → legal s ≡ true → length ws ≤ 4096 → n ≤ length buffer → n ≡ length (image_of s ws) → after ≡ sets buffer 0 (image_of s ws)
-      → (record { reply = Ok tt; length = n } ≡ written_of s ws (length buffer)) × (after ≡ buffer_after s ws buffer)
-  unfolding written_of buffer_after
+      → (Ok n ≡ written_of s ws (length buffer)) × (after ≡ buffer_after s ws buffer)
+  unfolding written_of buffer_after or_else
   answer_done after n h few r en ea =
-      let e : (Ok tt) ≡ write_reply s ws (length buffer) = reply_done s ws (length buffer) h few (omega arith) in
+      let e : Ok tt ≡ write_reply s ws (length buffer) = reply_done s ws (length buffer) h few (omega arith) in
       (rw (← e, en), rw (← e, ea) (sets_over buffer (image_of s ws) (omega arith)))

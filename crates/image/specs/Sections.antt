@@ -1,10 +1,10 @@
 -- The sections of an image as data, in document 01's order. `rest` is what of the bytes is left to read, from a section's start on.
-use Rattle.replies.specs.Reply.{Reply, is_done}
-use Rattle.std.specs.Prelude.{Ok, Err}
-use Rattle.std.specs.Prelude.{ℕ, zero, suc, ◌+◌, ◌*◌, ◌/◌, Bool, true, false, not, ◌&&◌, ◌||◌, List, [], ◌∷◌, ltb, leb, eqb, length, take, drop, get_or}
+use Rattle.replies.specs.Reply.{Reply}
+use Rattle.std.specs.Prelude.{ℕ, zero, suc, ◌+◌, ◌*◌, ◌/◌, Bool, true, false, not, ◌&&◌, ◌||◌, List, [], ◌∷◌, ltb, leb, eqb, length, take, drop, get_or, Result, Ok, Err}
 use Rattle.bits.specs.Choice.{pick}
 use Rattle.bits.specs.Search.{some}
 use Rattle.octets.specs.Bytes.{value}
+use Rattle.replies.specs.declared.Refusal.{Refusal}
 use Rattle.replies.specs.declared.Refusal.TheVariants as R
 use Rattle.registers.specs.Legal.{settings_allowed}
 use Rattle.image.specs.declared.sections.Shape.{Shape}
@@ -79,8 +79,9 @@ section_reply s rest =
 -- ---- all sections, one after the other
 
 -- the first fault answers
-unfoldable pub or_else : Reply → Reply → Reply
-or_else a b = pick (is_done a) b a
+unfoldable pub or_else : {A : Type 0} → Reply → Result A Refusal → Result A Refusal
+or_else (Ok _) b = b
+or_else (Err r) b = Err r
 
 -- the first section at fault answers; bytes after the last section 7
 unfoldable pub sections_reply : List Section → List ℕ → Reply

@@ -7,20 +7,17 @@ ghost use Rattle.image.specs.Reading.{content_of, sections_of, start_of, image_r
 use super::sections;
 use predicates::{Flags, Predicate};
 use registers::State;
-use replies::Reply;
+use replies::{Refusal, Reply};
 
 // The sections' reply, and last that of the lent list's room.
 pub fn image_reply(image: &[u8], room: usize) -> Reply
     ensures { result ≡ image_reply room image.now }
 {
-    let fault = sections::sections_reply(image);
-    if !fault.is_done() {
-        return fault;
-    }
+    sections::sections_reply(image)?;
     if room < sections::count_of(sections::start_of(image, sections::WORDS)) {
-        return Reply::BufferTooSmall;
+        return Err(Refusal::BufferTooSmall);
     }
-    Reply::Done
+    Ok(())
 }
 
 // The state of a refused reading.

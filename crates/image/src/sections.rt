@@ -3,7 +3,7 @@ ghost use Rattle.std.specs.Prelude.{false, ◌≡◌, ◌≤◌, ◌<◌};
 ghost use Rattle.image.specs.Sections.{setting, sections, section_at, shape_of, count_of, is_missing, after as after_section, has_wrong, section_reply, sections_reply, start_of};
 ghost use Rattle.image.specs.Reading.{vl_of, sections_of, is_old};
 
-use replies::Reply;
+use replies::{Refusal, Reply};
 
 // The sections' numbers, in their order.
 pub const SETTINGS: usize = 0;
@@ -174,18 +174,15 @@ pub fn sections_reply(image: &[u8]) -> Reply
     let mut rest = image;
     let mut i = 0;
     while i < SECTIONS {
-        let fault = section_reply(i, vl, rest);
-        if !fault.is_done() {
-            return fault;
-        }
+        section_reply(i, vl, rest)?;
         let next = after_section(i, vl, rest);
         rest = next;
         i += 1;
     }
     if 0 < rest.len() {
-        return Reply::TrailingBytes;
+        return Err(Refusal::TrailingBytes);
     }
-    Reply::Done
+    Ok(())
 }
 
 // Count cut; no fault if it is missing; count wrong, content cut, content wrong.
@@ -194,27 +191,27 @@ fn section_reply(section: usize, vl: u64, rest: &[u8]) -> Reply
     ensures { result ≡ section_reply (section_at (sections vl) section) rest.now }
 {
     if rest.len() < 4 {
-        return Reply::ImageCut;
+        return Err(Refusal::ImageCut);
     }
     if is_missing(section, vl, rest) {
-        return Reply::Done;
+        return Ok(());
     }
     let shape = shape_of(section, vl);
     let n = count_of(rest);
     if n < shape.lowest {
-        return Reply::NotAllowed;
+        return Err(Refusal::NotAllowed);
     }
     if shape.highest < n {
-        return Reply::NotAllowed;
+        return Err(Refusal::NotAllowed);
     }
     let bytes = n * shape.item;
     if rest.len() < 4 + bytes {
-        return Reply::ImageCut;
+        return Err(Refusal::ImageCut);
     }
     if has_wrong(section, vl, octets::after(rest, 4), bytes) {
-        return Reply::NotAllowed;
+        return Err(Refusal::NotAllowed);
     }
-    Reply::Done
+    Ok(())
 }
 
 // Whether one of the first n bytes of a section's content is not allowed.
