@@ -1,11 +1,10 @@
 -- What a walk answers, refused or not. Assumes nothing but what the types of its arguments say.
-use Rattle.replies.specs.Reply.{Reply, number_of, is_done}
-use Rattle.std.specs.Prelude.{Ok}
-use Rattle.std.proofs.Common.{◌≡◌, ℕ, Bool, true, false, not, List, length, sym, ap, ◌∙◌, subst, subst₂, eqb-true}
-use borrow.Author.Tests.{not-true, not-false}
+use Rattle.replies.specs.declared.Refusal.{Refusal}
+use Rattle.replies.specs.Reply.{Reply, is_done}
+use Rattle.std.specs.Prelude.{Ok, Err}
+use Rattle.std.proofs.Common.{◌≡◌, ℕ, Bool, false, List, length, sym, ap, ◌∙◌, subst, subst₂}
 use Rattle.bits.specs.Choice.{pick}
 use Rattle.bits.proofs.Searches.{never}
-use Rattle.replies.proofs.Replies.{number_done}
 use Rattle.registers.specs.declared.State.{State}
 use Rattle.words.specs.Words.{size_of}
 use Rattle.walk.specs.declared.Walked.{Walked}
@@ -20,10 +19,6 @@ module _ (size n m d k budget : ℕ) (s : State) (l : List ℕ) where
   abbrev reply : Reply
   reply = refusal_of size n m d k s (length l)
 
-  -- a reply that is done refuses nothing
-  pub not-refused : {r : Reply} {t : Bool} → r ≡ refusal_of size n m d k s (length l) → t ≡ is_done r → not t ≡ false → refusal_of size n m d k s (length l) ≡ Ok tt
-  not-refused {r} {t} er et h = sym er ∙ number_done r (eqb-true (number_of r) 0 (sym et ∙ not-false t h))
-
   -- what `walk` ensures
   abbrev pub Answers : List ℕ → Walked → Type 0
   Answers after r =
@@ -33,12 +28,12 @@ module _ (size n m d k budget : ℕ) (s : State) (l : List ℕ) where
   abbrev refusal : Walked
   refusal = record { reply = reply; count = 0; visited = 0; state = s }
 
-  pub refused : {r : Reply} {t : Bool} → r ≡ refusal_of size n m d k s (length l) → t ≡ is_done r → not t ≡ true
-      → Answers l (record { reply = r; count = 0; visited = 0; state = s })
+  pub refused : {r : Reply} {e : Refusal} → r ≡ refusal_of size n m d k s (length l) → r ≡ Err e → Answers l (record { reply = Err e; count = 0; visited = 0; state = s })
   unfolding walk_of whole_of
-  refused {t = t} er et h =
-      let no : is_done reply ≡ false = ap is_done (sym er) ∙ sym et ∙ not-true t h in (
-        ap (λ (q : Reply). record { reply = q; count = 0; visited = 0; state = s }) er ∙ sym (ap (λ (b : Bool). pick b (walked (whole_of size n m d k budget s l)) refusal) no),
+  refused er h =
+      let is : reply ≡ Err _ = sym er ∙ h in
+      let no : is_done reply ≡ false = ap is_done is in (
+        ap (λ (q : Reply). record { reply = q; count = 0; visited = 0; state = s }) (sym is) ∙ sym (ap (λ (b : Bool). pick b (walked (whole_of size n m d k budget s l)) refusal) no),
         (sym (ap (λ (b : Bool). (pick b (plain_walk (size_of size) n m d k budget s l) (begin s l)).list) no), λ e. never (ap is_done e) no),
       )
 

@@ -1,12 +1,12 @@
 -- A walk leaves a legal state legal, counts included, finished, spent or refused. Assumes nothing.
-use Rattle.replies.specs.Reply.{Reply, number_of, is_done}
-use Rattle.std.proofs.Common.{◌≡◌, ℕ, Bool, true, false, List, length, refl, ap, ◌∙◌, eqb-true}
+use Rattle.replies.specs.Reply.{Reply, is_done}
+use Rattle.std.specs.Prelude.{Ok, Err}
+use Rattle.std.proofs.Common.{◌≡◌, ℕ, true, List, length, refl, ap, ◌∙◌}
 use Rattle.bits.specs.declared.Size.{Size}
 use Rattle.registers.specs.declared.State.{State}
 use Rattle.registers.specs.Legal.{legal}
 use Rattle.registers.specs.State.{counted}
 use Rattle.registers.proofs.Legality.{legal-counted}
-use Rattle.replies.proofs.Replies.{number_done}
 use Rattle.words.specs.declared.Instruction.{Instruction}
 use Rattle.words.specs.Words.{size_of}
 use Rattle.machine.specs.Execute.{execute_of}
@@ -28,16 +28,14 @@ module _ (size : Size) (n m d k : ℕ) where
 
 module _ (size n m d k budget : ℕ) (s : State) (l : List ℕ) (ok : legal s ≡ true) where
   pub walk-legal : legal (walk_of size n m d k budget s l).state ≡ true
-  walk-legal = go (is_done reply) refl
+  walk-legal = go reply refl
     where
       reply : Reply
       reply = refusal_of size n m d k s (length l)
 
-      go : (b : Bool) → is_done reply ≡ b → legal (walk_of size n m d k budget s l).state ≡ true
-      go true e =
-          ap (λ (x : Walked). legal x.state) (answer_accepted size n m d k budget s l (number_done reply (eqb-true (number_of reply) 0 e)))
-          ∙ plain_kept (size_of size) n m d k budget s l ok
-      go false e = ap (λ (x : Walked). legal x.state) (answer-refused size n m d k budget s l e) ∙ ok
+      go : (r : Reply) → reply ≡ r → legal (walk_of size n m d k budget s l).state ≡ true
+      go (Ok tt) e = ap (λ (x : Walked). legal x.state) (answer_accepted size n m d k budget s l e) ∙ plain_kept (size_of size) n m d k budget s l ok
+      go (Err _) e = ap (λ (x : Walked). legal x.state) (answer-refused size n m d k budget s l (ap is_done e)) ∙ ok
 
   -- its counts are those that are worked out from its registers
   pub walk-counted : counted (walk_of size n m d k budget s l).state ≡ (walk_of size n m d k budget s l).state

@@ -1,11 +1,10 @@
 -- A walk changes no predicate register but Pd and Pk, and so never FFR. Assumes nothing.
-use Rattle.replies.specs.Reply.{Reply, number_of, is_done}
-use Rattle.std.specs.Prelude.{Ok}
-use Rattle.std.proofs.Common.{◌≡◌, ℕ, ◌<◌, Bool, true, false, List, length, refl, ap, ◌∙◌, arith, eqb-true}
+use Rattle.replies.specs.Reply.{Reply, is_done}
+use Rattle.std.specs.Prelude.{Ok, Err}
+use Rattle.std.proofs.Common.{◌≡◌, ℕ, ◌<◌, true, false, List, length, refl, ap, ◌∙◌, arith}
 use Rattle.bits.specs.declared.Size.{Size}
 use Rattle.registers.specs.declared.State.{State}
 use Rattle.registers.specs.State.{ffr, register_count, read_p}
-use Rattle.replies.proofs.Replies.{number_done}
 use Rattle.scalars.specs.declared.Condition.TheVariants.{Less}
 use Rattle.words.specs.declared.Instruction.TheVariants.{While, IncDec, Pnext, Pfalse}
 use Rattle.words.specs.declared.Target.TheVariants.{One}
@@ -33,15 +32,14 @@ module _ (size : Size) (n m d k r : ℕ) (there : r < register_count) (not-d : r
 
 -- refused or not
 pub ffr_kept : (size n m d k budget : ℕ) (s : State) (l : List ℕ) → read_p (walk_of size n m d k budget s l).state ffr ≡ read_p s ffr
-ffr_kept size n m d k budget s l = go (is_done reply) refl
+ffr_kept size n m d k budget s l = go reply refl
   where
     reply : Reply
     reply = refusal_of size n m d k s (length l)
 
-    go : (b : Bool) → is_done reply ≡ b → read_p (walk_of size n m d k budget s l).state ffr ≡ read_p s ffr
-    go true e =
-        let accepted : reply ≡ (Ok tt) = number_done reply (eqb-true (number_of reply) 0 e) in
-        let (d-below, k_below) = p_below size n m d k s (length l) accepted in
-        ap (λ (x : Walked). read_p x.state ffr) (answer_accepted size n m d k budget s l accepted)
+    go : (r : Reply) → reply ≡ r → read_p (walk_of size n m d k budget s l).state ffr ≡ read_p s ffr
+    go (Ok tt) e =
+        let (d-below, k_below) = p_below size n m d k s (length l) e in
+        ap (λ (x : Walked). read_p x.state ffr) (answer_accepted size n m d k budget s l e)
         ∙ walk_keeps (size_of size) n m d k ffr (omega arith) (λ q. omega arith) (λ q. omega arith) budget s l
-    go false e = ap (λ (x : Walked). read_p x.state ffr) (answer-refused size n m d k budget s l e)
+    go (Err _) e = ap (λ (x : Walked). read_p x.state ffr) (answer-refused size n m d k budget s l (ap is_done e))

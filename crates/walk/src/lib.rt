@@ -3,16 +3,16 @@
 // budget instructions and the positions written by then. Positions are written from the list's first place on; every other place stays.
 #![tactic(auto)]
 
-ghost use Rattle.std.specs.Prelude.{◌≡◌, length};
+ghost use Rattle.std.specs.Prelude.{◌≡◌, length, Ok, Err};
 ghost use Rattle.bits.specs.Choice.{pick};
-ghost use Rattle.replies.specs.declared.Reply.TheVariants.{Done, BudgetSpent};
+ghost use Rattle.replies.specs.declared.Refusal.TheVariants.{BudgetSpent};
 ghost use Rattle.words.specs.Words.{size_of};
 ghost use Rattle.walk.specs.Walk.{plain_walk, walked, bad_registers, refusal_of, whole_of, walk_of};
 ghost use Rattle.walk.specs.Demand.{Demand3};
 
 use predicates::{Flags, Predicate};
 use registers::State;
-use replies::Reply;
+use replies::{Refusal, Reply};
 use scalars::Condition;
 
 // The instruction to come.
@@ -60,47 +60,47 @@ fn bad_registers(size: u32, n: u32, m: u32, d: u32, k: u32) -> bool
     d == k
 }
 
-// The first refusal that applies, or `Done`.
+// The first refusal that applies, or none.
 pub fn refusal(state: State, size: u32, n: u32, m: u32, d: u32, k: u32, places: usize) -> Reply
     ensures { result ≡ refusal_of size n m d k state places }
 {
     if !state.is_legal() {
-        return Reply::IllegalState;
+        return Err(Refusal::IllegalState);
     }
     if bad_registers(size, n, m, d, k) {
-        return Reply::BadWalkRegisters;
+        return Err(Refusal::BadWalkRegisters);
     }
     if state.level == 0 {
-        return Reply::LevelTooLow;
+        return Err(Refusal::LevelTooLow);
     }
     if !state.access {
-        return Reply::AccessOff;
+        return Err(Refusal::AccessOff);
     }
     // X is read where it stands: `read_x` takes the state by value, and it would be copied.
     let start = registers::parts::x_at(&state.x, n as u64);
     let limit = registers::parts::x_at(&state.x, m as u64);
     if limit <= start {
-        return Reply::Done;
+        return Ok(());
     }
     if (places as u64) < limit - start {
-        return Reply::ListTooShort;
+        return Err(Refusal::ListTooShort);
     }
-    Reply::Done
+    Ok(())
 }
 
 fn answer(ended: bool, count: u64, visited: usize, state: State) -> Walked
-    ensures { result ≡ record { reply = pick ended Done BudgetSpent; count = count; visited = visited; state = state } }
+    ensures { result ≡ record { reply = pick ended (Ok tt) (Err BudgetSpent); count = count; visited = visited; state = state } }
 {
     if ended {
         return Walked {
-            reply: Reply::Done,
+            reply: Ok(()),
             count,
             visited,
             state,
         };
     }
     Walked {
-        reply: Reply::BudgetSpent,
+        reply: Err(Refusal::BudgetSpent),
         count,
         visited,
         state,
@@ -118,7 +118,7 @@ fn plain(
     list: &mut [u64],
     budget: u64,
 ) -> Walked
-    requires { refusal_of size n m d k start (length list.old) ≡ Done }
+    requires { refusal_of size n m d k start (length list.old) ≡ Ok tt }
     ensures answer { result ≡ walked (plain_walk (size_of size) n m d k budget start list.old) }
     ensures places { list.new ≡ (plain_walk (size_of size) n m d k budget start list.old).list }
 {
@@ -207,12 +207,11 @@ pub fn walk(
 ) -> Walked
     ensures answer { result ≡ walk_of size n m d k budget state list.old }
     ensures places { list.new ≡ (whole_of size n m d k budget state list.old).list }
-    ensures demand { refusal_of size n m d k state (length list.old) ≡ Done → Demand3 (size_of size) n m d k budget state list.old list.new result }
+    ensures demand { refusal_of size n m d k state (length list.old) ≡ Ok tt → Demand3 (size_of size) n m d k budget state list.old list.new result }
 {
-    let reply = refusal(state, size, n, m, d, k, list.len());
-    if !reply.is_done() {
+    if let Err(refusal) = refusal(state, size, n, m, d, k, list.len()) {
         return Walked {
-            reply,
+            reply: Err(refusal),
             count: 0,
             visited: 0,
             state,
