@@ -1,16 +1,14 @@
 -- What `fold_in` and `fold` answer. Assumes nothing but what `walk` ensures.
-use Rattle.replies.specs.Reply.{Reply, number_of, is_done}
-use Rattle.std.specs.Prelude.{Ok}
-use mathlib.Core.Bool.{Bool, true, false, not}
+use Rattle.replies.specs.Reply.{Reply, is_done}
+use Rattle.std.specs.Prelude.{Ok, Err}
+use mathlib.Core.Bool.{Bool, true, false}
 use mathlib.Core.List.{List, map}
 use mathlib.Core.Path.{◌≡◌, refl, sym, ap, ◌∙◌}
 use Prim.Native.Nat.{ℕ, ◌≤◌}
 use native.Mathlib.Omega.{arith}
 use lib.ListN.{length, take, replicate, length-replicate}
-use borrow.Author.Tests.{eqb-true}
 use Rattle.bits.specs.Choice.{pick}
 use Rattle.bits.proofs.Searches.{never}
-use Rattle.replies.proofs.Replies.{number_done}
 use Rattle.registers.specs.declared.State.{State}
 use Rattle.words.specs.Words.{size_of}
 use Rattle.walk.specs.declared.Walked.{Walked}
@@ -36,19 +34,18 @@ module _ (vl : ℕ) (t l after : List ℕ) (s : State) (r : Walked) where
 
   -- a walk whose reply is 0 was not refused
   not-refused : Walks → is_done r.reply ≡ true → refusal_of 1 0 1 0 1 s (length l) ≡ Ok tt
-  not-refused w h = by (is_done (refusal_of 1 0 1 0 1 s (length l))) refl
+  not-refused w h = by (refusal_of 1 0 1 0 1 s (length l)) refl
     where
-      by : (b : Bool) → is_done (refusal_of 1 0 1 0 1 s (length l)) ≡ b → refusal_of 1 0 1 0 1 s (length l) ≡ Ok tt
-      by true e = number_done (refusal_of 1 0 1 0 1 s (length l)) (eqb-true (number_of (refusal_of 1 0 1 0 1 s (length l))) 0 e)
-      by false e = never h (ap (λ (x : Walked). is_done x.reply) (w.0 ∙ answer-refused 1 0 1 0 1 budget s l e) ∙ e)
+      by : (q : Reply) → refusal_of 1 0 1 0 1 s (length l) ≡ q → refusal_of 1 0 1 0 1 s (length l) ≡ Ok tt
+      by (Ok tt) e = e
+      by (Err _) e = never h (ap (λ (x : Walked). is_done x.reply) (w.0 ∙ answer-refused 1 0 1 0 1 budget s l (ap is_done e)) ∙ ap is_done e)
 
   -- and then each position that it visited has a place
-  pub visited_fits : (b : Bool) → Walks → b ≡ is_done r.reply → not b ≡ false → r.visited ≤ length after
-  visited_fits true w e n =
-      let accepted = not-refused w (sym e) in
+  pub visited_fits : (b : Bool) → Walks → b ≡ is_done r.reply → b ≡ true → r.visited ≤ length after
+  visited_fits b w e n =
+      let accepted = not-refused w (sym e ∙ n) in
       let d = w.1.1 accepted in
       omega (arith, d.within, d.places, ((accepted_when 1 0 1 0 1 s (length l)).1 accepted).room)
-  visited_fits false w e n = never refl n
 
   module _ (is : s ≡ title_state vl (length t)) (w : Walks) where
     answer : r ≡ title_answer vl (length t) l
@@ -57,23 +54,21 @@ module _ (vl : ℕ) (t l after : List ℕ) (s : State) (r : Walked) where
     list : after ≡ title_list vl (length t) l
     list = w.1.0 ∙ ap (λ (s : State). (whole_of 1 0 1 0 1 budget s l).list) is
 
-    pub refused : (b : Bool) → b ≡ is_done r.reply → not b ≡ true → Answers t
+    pub refused : (b : Bool) → b ≡ is_done r.reply → b ≡ false → Answers t
     unfolding fold_of
-    refused false e n = (answer, (list, sym (ap (λ (b : Bool). pick b (folded_first (title_list vl (length t) l) (title_answer vl (length t) l).visited t) t) (ap (λ (x : Walked). is_done x.reply) (sym answer) ∙ sym e))))
-    refused true e n = never n refl
+    refused b e n = (answer, (list, sym (ap (λ (b : Bool). pick b (folded_first (title_list vl (length t) l) (title_answer vl (length t) l).visited t) t) (ap (λ (x : Walked). is_done x.reply) (sym answer) ∙ sym e ∙ n))))
 
-    pub done : (b : Bool) (last : List ℕ) → b ≡ is_done r.reply → not b ≡ false → last ≡ folded_first (take r.visited after) (length (take r.visited after)) t → Answers last
+    pub done : (b : Bool) (last : List ℕ) → b ≡ is_done r.reply → b ≡ true → last ≡ folded_first (take r.visited after) (length (take r.visited after)) t → Answers last
     unfolding fold_of
-    done false last e n f = never refl n
-    done true last e n f =
+    done b last e n f =
         let by_walk_lem : last ≡ folded_first (title_list vl (length t) l) (title_answer vl (length t) l).visited t =
-        f ∙ first_part after t r.visited (visited_fits true w e n)
+        f ∙ first_part after t r.visited (visited_fits b w e n)
         ∙ ap (λ (p : List ℕ). folded_first p r.visited t) list ∙ ap (λ (x : Walked). folded_first (title_list vl (length t) l) x.visited t) answer in (
           answer,
           (
             list,
             by_walk_lem
-                ∙ sym (ap (λ (b : Bool). pick b (folded_first (title_list vl (length t) l) (title_answer vl (length t) l).visited t) t) (ap (λ (x : Walked). is_done x.reply) (sym answer) ∙ sym e)),
+                ∙ sym (ap (λ (b : Bool). pick b (folded_first (title_list vl (length t) l) (title_answer vl (length t) l).visited t) t) (ap (λ (x : Walked). is_done x.reply) (sym answer) ∙ sym e ∙ n)),
           ),
         )
 

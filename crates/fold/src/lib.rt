@@ -2,8 +2,7 @@
 // A vector length that is not allowed is refused with 4, then a title of more than 4,096 units with 11; a refusal leaves the title as it was.
 #![tactic(auto)]
 
-ghost use Rattle.std.specs.Prelude.{map, ◌≡◌, length, replicate};
-ghost use Rattle.replies.specs.declared.Reply.TheVariants.{Done};
+ghost use Rattle.std.specs.Prelude.{map, ◌≡◌, length, replicate, Ok};
 ghost use Rattle.fold.specs.Table.{fold_unit};
 ghost use Rattle.fold.specs.Fold.{folded_one, folded_first, title_state, title_answer, title_list, longest, fold_of, fold_reply};
 
@@ -151,12 +150,9 @@ pub fn fold_in(title: &mut [u16], vl: u64, list: &mut [u64]) -> Walked
 {
     let state = title_state(vl, title.len() as u64);
     let walked = walk::walk(state, 1, 0, 1, 0, 1, list, BUDGET);
-    let reply = walked.reply;
-    if !reply.is_done() {
-        return walked;
+    if walked.reply.is_ok() {
+        fold_each(title, &list[..walked.visited]);
     }
-    let visited = walked.visited;
-    fold_each(title, &list[..visited]);
     walked
 }
 
@@ -164,7 +160,7 @@ pub fn fold_in(title: &mut [u16], vl: u64, list: &mut [u64]) -> Walked
 pub fn fold(title: &mut [u16], vl: u64) -> Reply
     ensures answer { result ≡ fold_reply vl (length title.old) }
     ensures units { title.new ≡ fold_of vl (replicate longest 0) title.old }
-    ensures table { result ≡ Done → title.new ≡ map fold_unit title.old }
+    ensures table { result ≡ Ok tt → title.new ≡ map fold_unit title.old }
 {
     // A short list for a short title: to clear the long one takes two thirds of the time in which 20 units are folded.
     if title.len() <= 64 {
