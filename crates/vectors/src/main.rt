@@ -2,7 +2,7 @@
 // rest (4 bytes), and its rest. Numbers are little-endian; an image stands behind its length (4 bytes).
 #![tactic(auto)]
 
-ghost use Rattle.std.specs.Prelude.{true, [], ◌≡◌, ◌≤◌, length, take, get_or, IfSome};
+ghost use Rattle.std.specs.Prelude.{true, [], ◌≡◌, ◌≤◌, ◌<◌, length, take, get_or, IsSome, IfSome};
 ghost use Rattle.octets.specs.Bytes.{value, parts};
 ghost use Rattle.predicates.specs.PredTest.{flags_of};
 ghost use Rattle.image.specs.Image.{image_of};
@@ -13,8 +13,8 @@ use machine::Machine;
 use predicates::Flags;
 use registers::State;
 use shared::{Kernel, Shared, Stepped};
-use std::io;
 use std::io::{Input, Read};
+use std::{fmt, io};
 
 // The most places of a list.
 const PLACES: usize = 512;
@@ -41,7 +41,8 @@ enum Kind {
 impl Kind {
     // The kind of this number, if one has it.
     fn of(byte: u8) -> Option<Kind>
-        ensures { IfSome result (λ kind. kind_number kind ≡ byte) }
+        ensures number { IfSome result (λ kind. kind_number kind ≡ byte) }
+        ensures known { 0 < byte → byte ≤ 5 → IsSome result }
     {
         match byte {
             1 => Some(Kind::Run),
@@ -53,6 +54,9 @@ impl Kind {
         }
     }
 }
+
+// More bytes than the input may have.
+const ROOM: usize = 920_000;
 
 // How many records of a kind there were, and how many of them agree.
 #[derive(Clone, Copy, Default)]
@@ -72,25 +76,21 @@ struct Tally {
 }
 
 fn main(rt: HostRuntime) -> io::Result<()> {
-    judge(&rt, [0; 920000])
+    judge(&rt, [0; ROOM])
 }
 
-// Reads into the bytes handed in, which are more than the input may have.
-fn judge(rt: &(impl Input + Print), mut bytes: [u8; 920000]) -> io::Result<()> {
-    let length = io::copy(&mut rt.reader().take(920000), &mut &mut bytes[..])?;
-    if length == 920000 {
+// Reads into the bytes handed in.
+fn judge(rt: &(impl Input + Print), mut bytes: [u8; ROOM]) -> io::Result<()> {
+    let length = io::copy(&mut rt.reader().take(ROOM as u64), &mut &mut bytes[..])? as usize;
+    if length == ROOM {
         return rt.println("the input is too long");
     }
-    let tally = compare(rt, octets::first(&bytes, length as usize))?;
-    say_score(rt, "runs", tally.runs)?;
-    say_score(rt, "images", tally.images)?;
-    say_score(rt, "walks", tally.walks)?;
-    say_score(rt, "steps", tally.steps)?;
-    say_score(rt, "titles", tally.titles)
-}
-
-fn say_score(rt: &impl Print, name: &str, score: Score) -> io::Result<()> {
-    println!(rt; "{name} {} of {}", score.agree, score.all)
+    let tally = compare(rt, octets::first(&bytes, length))?;
+    println!(rt; "runs {}", tally.runs)?;
+    println!(rt; "images {}", tally.images)?;
+    println!(rt; "walks {}", tally.walks)?;
+    println!(rt; "steps {}", tally.steps)?;
+    println!(rt; "titles {}", tally.titles)
 }
 
 // The records one after the other, to the end or to the first that is malformed.
@@ -112,6 +112,12 @@ fn compare(rt: &impl Print, bytes: &[u8]) -> io::Result<Tally> {
         left = past_block(record);
     }
     Ok(tally)
+}
+
+impl fmt::Display for Score {
+    fn fmt<W: fmt::Write>(&self, f: &mut fmt::Formatter<W>) -> fmt::Result {
+        write!(f, "{} of {}", self.agree, self.all)
+    }
 }
 
 impl Score {
@@ -259,7 +265,6 @@ fn walk_agrees(rest: &[u8]) -> bool
 }
 
 fn walk_is(state: State, asked: &[u8], list: &mut [u64]) -> bool
-    requires { length list.old ≤ 512 }
     ensures { result ≡ true → Walks state asked.now list.old }
 {
     let walked = walk::walk(
@@ -327,23 +332,23 @@ fn title_agrees(rest: &[u8]) -> bool
 {
     let units = octets::number_at(rest, 8, 4) as usize;
     let mut title = [0; UNITS];
-    units <= UNITS && title_is(rest, &mut title[..units])
+    let mut folded = [0; UNITS];
+    units <= UNITS && title_is(rest, &mut title[..units], &mut folded[..units])
 }
 
-// Whether the title of a record, which is put in the lent one first, is folded as the record says.
-fn title_is(rest: &[u8], title: &mut [u16]) -> bool
-    requires { length title.old ≤ 4097 }
+// Whether the title of a record is folded as the record says. The lent lists take the title and what it is to be after.
+fn title_is(rest: &[u8], title: &mut [u16], folded: &mut [u16]) -> bool
+    requires { length folded.old ≡ length title.old }
     ensures { result ≡ true → TitleFolds rest.now (length title.old) }
 {
     put_units(octets::after(rest, 13), title);
+    put_units(octets::after(rest, title.len() * 2 + 13), folded);
     let reply = fold::fold(title, octets::number_at(rest, 0, 8));
-    replies::number(reply) == octets::byte(rest, 12)
-        && units_are(title, octets::after(rest, title.len() * 2 + 13))
+    replies::number(reply) == octets::byte(rest, 12) && &*title == &*folded
 }
 
 // Puts a unit of two bytes at each place of a title.
 fn put_units(bs: &[u8], title: &mut [u16])
-    requires { length title.old ≤ 4097 }
     ensures { title.new ≡ parts value 2 (length title.old) bs.now }
 {
     for (i, unit) in title.iter_mut().enumerate() {
@@ -351,30 +356,13 @@ fn put_units(bs: &[u8], title: &mut [u16])
     }
 }
 
-// Whether a title is these bytes, two for each unit.
-fn units_are(title: &[u16], bs: &[u8]) -> bool
-    requires { length title.now ≤ 4097 }
-    ensures { result ≡ true → title.now ≡ parts value 2 (length title.now) bs.now }
-{
-    for (i, &unit) in title.iter().enumerate() {
-        if u64::from(unit) != octets::number_at(bs, i * 2, 2) {
-            return false;
-        }
-    }
-    true
-}
-
 // Whether a list is these bytes, eight for each place.
 fn list_is(list: &[u64], bs: &[u8]) -> bool
-    requires { length list.now ≤ 512 }
     ensures { result ≡ true → list.now ≡ parts value 8 (length list.now) bs.now }
 {
-    for (i, &place) in list.iter().enumerate() {
-        if place != octets::number_at(bs, i * 8, 8) {
-            return false;
-        }
-    }
-    true
+    list.iter()
+        .enumerate()
+        .all(|(i, &place)| place == octets::number_at(bs, i * 8, 8))
 }
 
 // Whether the image of a state and words is these bytes.
