@@ -12,30 +12,30 @@ typed st = record { fits = search (rules, x_fits) }
 pub returns-in-Err-clause-answer : goal.returns-in-Err-clause-answer
 returns-in-Err-clause-answer c =
     let a = c.args in
-    (refused a.size a.n a.m a.d a.k a.budget a.state a.list.now c.refusal.ensures c.in-Err.is).0
+    (refused a.request.size a.request.n a.request.m a.request.d a.request.k a.budget a.state a.list.now c.refusal.ensures c.in-Err.is).0
 
 pub returns-in-Err-clause-places : goal.returns-in-Err-clause-places
 returns-in-Err-clause-places c =
     let a = c.args in
-    (refused a.size a.n a.m a.d a.k a.budget a.state a.list.now c.refusal.ensures c.in-Err.is).1.0
+    (refused a.request.size a.request.n a.request.m a.request.d a.request.k a.budget a.state a.list.now c.refusal.ensures c.in-Err.is).1.0
 
 pub returns-clause-answer : goal.returns-clause-answer
 returns-clause-answer c =
     let a = c.args in
     let plain = c.plain in
-    (accepted a.size a.n a.m a.d a.k a.budget a.state a.list.now plain.ensures.answer plain.ensures.places (typed (goal.at.returns-clause-answer c).Start)
+    (accepted a.request.size a.request.n a.request.m a.request.d a.request.k a.budget a.state a.list.now plain.ensures.answer plain.ensures.places (typed (goal.at.returns-clause-answer c).Start)
     (sym c.refusal.ensures ∙ c.in_default.is)).0
 
 pub returns-clause-places : goal.returns-clause-places
 returns-clause-places c =
     let a = c.args in
     let plain = c.plain in
-    (accepted a.size a.n a.m a.d a.k a.budget a.state a.list.now plain.ensures.answer plain.ensures.places (typed (goal.at.returns-clause-places c).Start)
+    (accepted a.request.size a.request.n a.request.m a.request.d a.request.k a.budget a.state a.list.now plain.ensures.answer plain.ensures.places (typed (goal.at.returns-clause-places c).Start)
     (sym c.refusal.ensures ∙ c.in_default.is)).1.0
 
 pub returns-clause-demand : goal.returns-clause-demand
 returns-clause-demand c =
     let a = c.args in
     let plain = c.plain in
-    (accepted a.size a.n a.m a.d a.k a.budget a.state a.list.now plain.ensures.answer plain.ensures.places (typed (goal.at.returns-clause-demand c).Start)
+    (accepted a.request.size a.request.n a.request.m a.request.d a.request.k a.budget a.state a.list.now plain.ensures.answer plain.ensures.places (typed (goal.at.returns-clause-demand c).Start)
     (sym c.refusal.ensures ∙ c.in_default.is)).1.1
