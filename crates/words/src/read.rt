@@ -25,18 +25,11 @@ pub fn size_of(n: u32) -> Size
 fn condition_of(lt: bool, eq: bool) -> Condition
     ensures { result ≡ condition_of lt eq }
 {
-    if lt {
-        if eq {
-            Condition::LessEqual
-        } else {
-            Condition::Less
-        }
-    } else {
-        if eq {
-            Condition::Greater
-        } else {
-            Condition::GreaterEqual
-        }
+    match (lt, eq) {
+        (true, false) => Condition::Less,
+        (true, true) => Condition::LessEqual,
+        (false, false) => Condition::GreaterEqual,
+        (false, true) => Condition::Greater,
     }
 }
 
