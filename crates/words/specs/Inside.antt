@@ -15,17 +15,17 @@ matches_after b (field n ∷ ps) w = matches_after b ps w
 abbrev pub tests : Form → ℕ → Bool
 tests f w = matches_after (from f.allowed (cut f.layout w)) f.layout w
 
--- the lowest bit and the width of each field, from the highest down
-abbrev pub lows : List Piece → List ℕ
-lows [] = []
-lows (fixed n v ∷ ps) = lows ps
-lows (field n ∷ ps) = span ps ∷ lows ps
-
+-- the width of each field, from the highest down, and each field's lowest bit and width
 abbrev pub widths : List Piece → List ℕ
 widths [] = []
 widths (fixed n v ∷ ps) = widths ps
 widths (field n ∷ ps) = n ∷ widths ps
 
+abbrev pub fields_in : List Piece → List (ℕ × ℕ)
+fields_in [] = []
+fields_in (fixed n v ∷ ps) = fields_in ps
+fields_in (field n ∷ ps) = (span ps, n) ∷ fields_in ps
+
 -- what the table of the code has of a layout
 abbrev pub places_of : List Piece → Places
-places_of ps = record { fixed = place ps []; low = lows ps; width = widths ps }
+places_of ps = record { fixed = place ps []; fields = fields_in ps }
