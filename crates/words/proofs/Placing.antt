@@ -66,29 +66,6 @@ small [] h = tt
 small (fixed n v ∷ ps) h = small ps (omega arith)
 small (field n ∷ ps) h = (omega arith, omega arith, small ps (omega arith))
 
--- the element at n of a mapped list
-map_at : {A B : Type 0} (f : A → B) (l : List A) (n : ℕ) (d : B) (e : A) → n < length l → get_or (map f l) n d ≡ f (get_or l n e)
-map_at f [] n d e h = absurd (omega arith)
-map_at f (x ∷ l) zero d e h = refl
-map_at f (x ∷ l) (suc n) d e h = map_at f l n d e (omega arith)
-
--- every form's places, in the order of the table: that the code's are the same is computed at `places_of`
-pub table_at : (n : ℕ) (d : Places) → n < length forms → get_or (map (λ (f : Form). places_of (row_layout f)) forms) n d ≡ places_of (row_layout (form_at n))
-table_at n d h = map_at (λ (f : Form). places_of (row_layout f)) forms n d pfalse_form h
-
--- shifts that lose nothing
-pub shifted : (x low : ℕ) → x < 256 → low ≤ 32 → (x * 2 ^ low % 2 ^ 64 ≡ x * 2 ^ low) × (x * 2 ^ low % 2 ^ 64 < 2 ^ 40)
-shifted x low h l =
-    let m : x * 2 ^ low ≤ x * 2 ^ 32 = mul-le-mul_left x (pow_mono l) in
-    let b : x * 2 ^ low < 2 ^ 40 = omega arith in
-    let e : x * 2 ^ low % 2 ^ 64 ≡ x * 2 ^ low = mod-eq_of_lt (omega arith) in
-    (e, omega arith)
-
-pub one_shifted : (x width : ℕ) → width < 64 → ltb x (1 * 2 ^ width % 2 ^ 64) ≡ ltb x (2 ^ width)
-one_shifted x width h =
-    let b : 2 ^ width < 2 ^ 64 = pow-lt h in
-    ap (ltb x) (ap (λ (n : ℕ). n % 2 ^ 64) (one-mul (2 ^ width)) ∙ mod-eq_of_lt b)
-
 -- fields of no bits change neither the width nor the fixed bits
 pub span-up_to : (n : ℕ) (ps : List Piece) → span (up_to n ps) ≡ span ps
 span-up_to zero ps = refl
@@ -175,17 +152,11 @@ module _ (row : List ℕ) {n : ℕ} (r : n ≡ get_or row 0 0) where
       ap (λ (m : ℕ). pick (ltb m (length forms)) (written_in (form_at m) xs) (Err FieldPastRange)) (sym r)
       ∙ ap (λ (b : Bool). pick b (written_in f xs) (Err FieldPastRange)) h
 
-  pub past-forms : length forms ≤ n → Err FieldPastRange ≡ encoded_as row
-  past-forms h = sym (by_form (le-ltb n (length forms) h))
-
   module _ {a : Bool} (e : a ≡ from f.allowed xs) (h : n < length forms) where
     by_fields : {b : Bool} → (a && fits (row_layout f) xs) ≡ b → encoded_as row ≡ pick b (Ok (place (row_layout f) xs)) (Err FieldPastRange)
     by_fields q =
         by_form (lt-ltb n (length forms) h)
         ∙ ap (λ (b : Bool). pick b (Ok (place (row_layout f) xs)) (Err FieldPastRange)) (ap (λ (b : Bool). b && fits (row_layout f) xs) (sym e) ∙ q)
-
-    pub left_out : a ≡ false → Err FieldPastRange ≡ encoded_as row
-    left_out q = sym (by_fields (ap (λ (b : Bool). b && fits (row_layout f) xs) q))
 
     module _ (q : a ≡ true) where
       pub row-refused : fits (row_layout f) xs ≡ false → Err FieldPastRange ≡ encoded_as row
