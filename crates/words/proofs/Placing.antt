@@ -1,21 +1,19 @@
 -- A word placed number by number, and the table of places.
 use Rattle.std.specs.Prelude.{Ok, Err}
-use Prim.Native.Nat.{ℕ, zero, suc, ◌+◌, ◌*◌, ◌<◌, ◌≤◌, ◌%◌, ◌^◌}
+use Prim.Native.Nat.{ℕ, zero, suc, ◌+◌, ◌*◌, ◌<◌, ◌≤◌, ◌^◌}
 use mathlib.Core.Path.{◌≡◌, refl, sym, ap, ◌∙◌}
 use mathlib.Core.Bool.{Bool, true, false, ◌&&◌}
 use mathlib.Core.List.{List, [], ◌∷◌}
 use native.Mathlib.Omega.{arith}
-use native.Mathlib.Nat.{mul-le-mul_left, zero-add, one-mul, mod-eq_of_lt}
-use lib.Pow.{pow_mono, pow-lt}
+use native.Mathlib.Nat.{zero-add}
 use lib.Dec.{ltb}
-use mathlib.Core.List.{map}
 use lib.ListN.{length, get_or, drop}
-use borrow.Author.Tests.{le-ltb, lt-ltb}
+use borrow.Author.Tests.{lt-ltb}
 use Rattle.bits.specs.Choice.{pick}
 use Rattle.replies.specs.declared.Refusal.TheVariants.{FieldPastRange}
 use Rattle.words.specs.Layout.{Piece, span, fits, place, up_to, from}
 use Rattle.words.specs.Layout.Piece.{fixed, field}
-use Rattle.words.specs.Words.{Form, pfalse_form, forms, form_at}
+use Rattle.words.specs.Words.{Form, forms, form_at}
 use Rattle.words.specs.Rows.{row_layout, written_in, encoded_as}
 use Rattle.words.specs.Inside.{fields_in, places_of}
 use Rattle.words.specs.declared.write.Places.{Places}

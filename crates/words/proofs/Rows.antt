@@ -1,16 +1,8 @@
 -- An instruction is written as its row is.
-use Rattle.std.specs.Prelude.{Result}
-use Rattle.replies.specs.declared.Refusal.{Refusal}
-use Prim.Native.Nat.{ℕ}
-use mathlib.Core.Path.{◌≡◌, refl, sym, ap, ◌∙◌}
-use mathlib.Core.Bool.{Bool}
-use mathlib.Core.List.{List, [], ◌∷◌}
-use Rattle.bits.specs.declared.Size.{Size}
+use mathlib.Core.Path.{◌≡◌, refl}
 use Rattle.words.specs.Layout.{fits}
-use Rattle.words.specs.Words.{decode_of, encode_of}
-use Rattle.words.specs.Rows.{row_of, encoded_as, reply_to, row_after, decoded_reply, decoded_row, reply_with, word_after, encoded_reply, encoded_word}
-use Rattle.scalars.specs.declared.Condition.{Condition}
-use Rattle.words.specs.declared.Target.{Target}
+use Rattle.words.specs.Words.{encode_of}
+use Rattle.words.specs.Rows.{row_of, encoded_as}
 use Rattle.words.specs.declared.Target.TheVariants.{One, Pair, Counter}
 use Rattle.words.specs.declared.Instruction.{Instruction}
 use Rattle.words.specs.declared.Instruction.TheVariants.{While, Saturating, IncDec, Cntp, CntpCounter, Pnext, Pfirst, Ptest, Pfalse, Logic, Setffr, Wrffr, Rdffr, RdffrPg, RdffrsPg}

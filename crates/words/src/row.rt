@@ -10,12 +10,6 @@ use super::{Instruction, Operation, Target};
 use bits::Size;
 use scalars::Condition;
 
-fn lt_bit(c: Condition) -> u8
-    ensures { result ≡ digit (upward c) }
-{
-    u8::from(scalars::counts_up(c))
-}
-
 fn eq_bit(c: Condition) -> u8
     ensures { result ≡ digit (eq_bit c) }
 {
@@ -26,13 +20,6 @@ fn size_number(size: Size) -> u8
     ensures { result ≡ shift size }
 {
     size.shift() as u8
-}
-
-// The bits op, o2 and o3 as one number.
-fn operation_number(o: Operation) -> u8
-    ensures { result ≡ operation_number o }
-{
-    o as u8
 }
 
 fn while_row(
@@ -47,7 +34,7 @@ fn while_row(
 {
     let s = size_number(size);
     let u = u8::from(unsigned);
-    let lt = lt_bit(condition);
+    let lt = u8::from(scalars::counts_up(condition));
     let eq = eq_bit(condition);
     match target {
         Target::One { wide, pd } => [0, s, rm, u8::from(wide), u, lt, rn, eq, pd],
@@ -75,7 +62,8 @@ fn saturating_row(
 fn logic_row(operation: Operation, flags: bool, pm: u8, pg: u8, pn: u8, pd: u8) -> [u8; 9]
     ensures { result ≡ row_of (Instruction.Logic operation flags pm pg pn pd) }
 {
-    let n = operation_number(operation);
+    // The bits op, o2 and o3 as one number.
+    let n = operation as u8;
     let s = u8::from(flags);
     [11, n / 4 % 2, s, pm, pg, n / 2 % 2, pn, n % 2, pd]
 }

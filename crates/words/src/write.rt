@@ -72,11 +72,8 @@ const LOGIC: usize = 11;
 fn is_allowed(form: usize, row: [u8; 9]) -> bool
     ensures { result ≡ from (form_at form).allowed (drop 1 row) }
 {
-    if form != LOGIC {
-        return true;
-    }
     let bits = u32::from(row[1]) * 4 + u32::from(row[5]) * 2 + u32::from(row[7]);
-    super::logic_has_word(bits, row[2] == 1)
+    form != LOGIC || super::logic_has_word(bits, row[2] == 1)
 }
 
 // A number is below 2 ^ width.
