@@ -8,7 +8,7 @@ ghost use Rattle.bits.specs.Search.{count, first_from, after_last};
 ghost use Rattle.bits.specs.Size.{shift};
 
 // An element's size: 8, 16, 32 or 64 bits of a vector.
-#[derive(Clone, Copy)]
+#[derive(Clone, Copy, PartialEq, Eq, Debug)]
 pub enum Size {
     B,
     H,

@@ -13,7 +13,7 @@ ghost use Rattle.scalars.specs.Inside.{held_of};
 ghost use Rattle.scalars.specs.Saturate.{clamp, saturated, moved, saturating};
 
 // The comparison of a WHILE.
-#[derive(Clone, Copy)]
+#[derive(Clone, Copy, PartialEq, Eq, Debug)]
 pub enum Condition {
     Less,
     LessEqual,
