@@ -24,9 +24,10 @@ one q f = record { pd = q; pd2 = all_false; rd = 0; nzcv = f }
 pub one_is : (e : Computed) (f : ℕ) (q u : Predicate) (flags : Flags) → e ≡ one q f → q ≡ u → f ≡ nzcv flags → e ≡ computed (gives_pf u flags)
 one_is e f q u flags he hq hf = he ∙ ap₂ one hq hf
 
-pub pair_is : (f : ℕ) (q u o v : Predicate) (flags : Flags) → q ≡ u → o ≡ v → f ≡ nzcv flags
-    → record { pd = q; pd2 = o; rd = 0; nzcv = f } ≡ computed (gives_ppf u v flags)
-pair_is f q u o v flags hq ho hf = λ i. record { pd = hq i; pd2 = ho i; rd = 0; nzcv = hf i }
+-- a pair: the second predicate beside the first and the flags
+pub pair_is : (e : Computed) (f : ℕ) (q u o v : Predicate) (flags : Flags) → e ≡ one q f → q ≡ u → o ≡ v → f ≡ nzcv flags
+    → record { pd = e.pd; pd2 = o; rd = e.rd; nzcv = e.nzcv } ≡ computed (gives_ppf u v flags)
+pair_is e f q u o v flags he hq ho hf = ap₂ (λ (x : Computed) (y : Predicate). record { pd = x.pd; pd2 = y; rd = x.rd; nzcv = x.nzcv }) (one_is e f q u flags he hq hf) ho
 
 pub x_is : (e : Computed) (v w : ℕ) → e ≡ computed (gives_x v) → v ≡ w → e ≡ computed (gives_x w)
 x_is e v w he hv = he ∙ ap (λ (x : ℕ). computed (gives_x x)) hv

@@ -18,6 +18,6 @@ count_expanded-requires c =
 pub returns : goal.returns
 unfolding cntp_counter_of
 returns c =
-    x_is _ _ _ c.gives_x.ensures
+    x_is _ _ _ c.number.ensures
     (c.count_expanded.ensures
     ∙ ap (count (λ e. expanded c.args.vl c.args.pn (e * 2 ^ shift c.args.size))) c.group-g.ensures)

@@ -20,13 +20,13 @@ overflow_sub-result c = search (fewer, rules) depth 9
 pub returns-then-word-eq1 : goal.returns-then-word-eq1
 returns-then-word-eq1 c =
     let a = c.args in
-    inverted_is a.p a.size a.vl a.g _ _ _ _ _ _ _ _ _ c.starts_below-n.ensures c.starts_below.ensures c.greatest-larger.ensures c.least.ensures
-    c.count_above.ensures c.least-end.ensures c.mark_end.ensures c.shift-k.ensures
+    inverted_is a.p a.size a.vl a.g _ _ _ _ _ _ _ _ _ c.starts_below-n.ensures c.starts_below.ensures c.max-larger.ensures c.min.ensures
+    c.count_above.ensures c.min-end.ensures c.mark_end.ensures c.shift-k.ensures
     c.lowest_bit-mark.ensures (omega arith) (omega arith) c.if-word-eq1.true
 
 pub returns : goal.returns
 returns c =
     let a = c.args in
-    plain_is a.p a.size a.vl a.g _ _ _ _ _ _ _ _ c.starts_below-n.ensures c.greatest-larger.ensures c.least.ensures
-    c.count_above.ensures c.least-end.ensures c.mark_end.ensures c.shift-k.ensures
+    plain_is a.p a.size a.vl a.g _ _ _ _ _ _ _ _ c.starts_below-n.ensures c.max-larger.ensures c.min.ensures
+    c.count_above.ensures c.min-end.ensures c.mark_end.ensures c.shift-k.ensures
     c.lowest_bit-mark.ensures (omega arith) (omega arith) c.if-word-eq1.false

@@ -8,4 +8,4 @@ use Rattle.instructions.proofs.counts.cntp.Goals as goal
 pub returns : goal.returns
 unfolding cntp_of
 returns c =
-    x_is _ _ _ c.gives_x.ensures (c.count_active.ensures ∙ both_active c.args.vl c.args.size c.args.pg c.args.pn _ c.and.ensures)
+    x_is _ _ _ c.number.ensures (c.count_active.ensures ∙ both_active c.args.vl c.args.size c.args.pg c.args.pn _ c.and.ensures)
