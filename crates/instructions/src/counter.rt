@@ -67,6 +67,7 @@ pub fn while_counter(compared: Comparison, four: bool, size: Size, vl: u64) -> C
 }
 
 // CNTP of a counter: of the elements of two vectors, or of four.
+#[tactic(auto, unfolding(crate::specs::Counter::cntp_counter_of))]
 pub fn cntp_counter(four: bool, size: Size, pn: Predicate, vl: u64) -> Computed
     ensures { result ≡ computed (cntp_counter_of four size pn vl) }
 {
@@ -76,6 +77,7 @@ pub fn cntp_counter(four: bool, size: Size, pn: Predicate, vl: u64) -> Computed
 
 // How many of the first `g` elements of a size an expanded counter has. An element of the mark's size counts where one of that size
 // starts as well, which is where one of the larger of the two does.
+#[tactic(auto, using(crate::proofs::CounterLaws::end_fits, crate::proofs::CounterLaws::held_fits, crate::proofs::CounterLaws::larger_lt, crate::proofs::CounterLaws::fewer))]
 fn count_expanded(p: Predicate, size: Size, g: u64, vl: u64) -> u64
     requires { g ≤ 1024 }
     ensures { result ≡ count (λ e. expanded vl p (e * 2 ^ shift size)) g }

@@ -28,6 +28,7 @@ pub fn saturating(decrement: bool, unsigned: bool, wide: bool, rdn: u64, n: u16)
 }
 
 // CNTP: elements true in both predicates.
+#[tactic(auto, using(crate::proofs::SearchLaws::both_active), unfolding(crate::specs::Counts::cntp_of))]
 pub fn cntp(size: Size, pg: Predicate, pn: Predicate, vl: u64) -> Computed
     ensures { result ≡ computed (cntp_of size pg pn vl) }
 {

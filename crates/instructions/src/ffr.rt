@@ -10,6 +10,7 @@ use predicates::Predicate;
 use words::Instruction;
 
 // SETFFR.
+#[tactic(auto, using(crate::proofs::FfrLaws::live_bits), unfolding(crate::specs::Ffr::setffr_of))]
 pub fn setffr(vl: u64) -> Computed
     ensures { result ≡ computed (setffr_of vl) }
 {

@@ -94,6 +94,7 @@ impl Run {
 }
 
 // PredTest of `n` elements with `c` true, counted up or down, under an all-true mask; with no element N0 Z1 C1.
+#[tactic(auto, using(crate::proofs::WhileLaws::span_capped))]
 pub fn while_flags(up: bool, c: u64, n: u64) -> u64
     ensures { result ≡ nzcv (span_flags up c n) }
 {
