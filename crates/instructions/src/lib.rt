@@ -61,7 +61,9 @@ pub fn compute(i: Instruction, v: Values, vl: u64) -> Computed
             ..
         } => logic::logic(operation, flags, v.pg, v.pn, v.pm, vl),
         Instruction::Setffr => ffr::setffr(vl),
-        Instruction::Wrffr { .. } | Instruction::Rdffr { .. } => Computed::predicate(v.pn),
+        // Two arms: one for both is tested apart from the others, which slows each.
+        Instruction::Wrffr { .. } => Computed::predicate(v.pn),
+        Instruction::Rdffr { .. } => Computed::predicate(v.pn),
         Instruction::RdffrPg { .. } => ffr::rdffr_pg(v.pg, v.pn),
         Instruction::RdffrsPg { .. } => ffr::rdffrs_pg(v.pg, v.pn, vl),
     }

@@ -37,6 +37,8 @@ impl Comparison {
     }
 
     // The elements that `n` comparisons make true; `wide` compares whole registers, else low words.
+    // Inlined, so that what is compared is passed on in registers.
+    #[inline(always)]
     pub fn run(self, wide: bool, n: u64) -> Run
         ensures up { result.up ≡ upward self.condition }
         ensures held { result.held ≡ count (all_held (comparison (width_of wide) self.unsigned self.condition (low_of (width_of wide) self.rn) (low_of (width_of wide) self.rm))) n }
