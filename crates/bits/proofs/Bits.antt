@@ -85,9 +85,6 @@ number-none f at (suc n) h =
     (number-none f (suc at) n (λ i l. ap f (suc-add at i ∙ sym (add-suc at i)) ∙ h (suc i) (omega arith)))
     (ap digit (ap f (sym (add-zero at)) ∙ h 0 (omega arith)))
 
-pub none_number : (f : ℕ → Bool) (at n : ℕ) → number f at n ≡ 0 → (i : ℕ) → i < n → f (at + i) ≡ false
-none_number f at n e i h = sym (test_bit-number f at n i h) ∙ ap (λ (w : ℕ). test_bit w i) e ∙ test_bit-zero i
-
 -- bits that are not set above the first n change nothing
 pub number-padded : (f : ℕ → Bool) (at n m : ℕ) → n ≤ m → ((i : ℕ) → n ≤ i → i < m → f (at + i) ≡ false) → number f at m ≡ number f at n
 unfolding number
