@@ -112,6 +112,8 @@ module _ (op : Bool → Bool → Bool) (on_words : ℕ → ℕ → ℕ)
   op-word : (k : ℕ) → on_words (word p k) (word q k) ≡ number (λ b. op (bit_at p b) (bit_at q b)) (k * 64) 64
   op-word k = sym (law (bit_at p) (bit_at q) (k * 64) ∙ ap₂ on_words (word_bits p hp k) (word_bits q hq k))
 
-  pub pack-op : ◌≡◌ {A = Predicate} (record { words = on_words (word p 0) (word q 0) ∷ on_words (word p 1) (word q 1) ∷ on_words (word p 2) (word q 2) ∷ on_words (word p 3) (word q 3) ∷ [] })
-      (pack (λ b. op (bit_at p b) (bit_at q b)))
-  pack-op = four_words (λ b. op (bit_at p b) (bit_at q b)) _ _ _ _ (op-word 0) (op-word 1) (op-word 2) (op-word 3)
+  pub pack-op : (r : Predicate) → Words r → ((i : ℕ) → i < 4 → word r i ≡ on_words (word p i) (word q i)) → r ≡ pack (λ b. op (bit_at p b) (bit_at q b))
+  pack-op r hr h =
+      let w : (i : ℕ) → i < 4 → word r i ≡ number (λ b. op (bit_at p b) (bit_at q b)) (i * 64) 64 = λ i l. h i l ∙ op-word i in
+      sym (ap (λ (ws : List ℕ). record { words = ws }) (four_of r.words hr.four))
+      ∙ four_words (λ b. op (bit_at p b) (bit_at q b)) _ _ _ _ (w 0 (omega arith)) (w 1 (omega arith)) (w 2 (omega arith)) (w 3 (omega arith))

@@ -1,11 +1,15 @@
 -- `Predicate::and` meets its contract: AND of words is `&&` of bits. Assumes nothing.
-use mathlib.Core.Bool.{◌&&◌}
-use Prim.Native.Nat.{ℕ}
-use lib.Bits.{bit_and}
+use mathlib.Core.Bool.{not, xor, ◌&&◌, ◌||◌}
+use mathlib.Core.Path.{ap, ◌∙◌}
+use Prim.Native.Nat.{ℕ, ◌-◌, ◌^◌}
+use lib.Bits.{bit_and, bit_or, bit_xor}
 use borrow.Author.Rules.{rules}
-use Rattle.bits.proofs.Bits.{number-and}
+use Rattle.bits.specs.Bits.{number}
+use Rattle.bits.proofs.Bits.{number-and, number-or, number-xor, number-not}
 use Rattle.predicates.proofs.Words.{words_of, pack-op}
 use Rattle.predicates.proofs.Predicate.and.Goals as goal
 
 pub returns : goal.returns
-returns c = pack-op ◌&&◌ bit_and (λ f g (at : ℕ). number-and f g at 64) c.args.self c.args.other (search (rules, words_of)) (search (rules, words_of))
+returns c =
+    pack-op ◌&&◌ bit_and (λ f g (at : ℕ). number-and f g at 64) c.args.self c.args.other (search (rules, words_of)) (search (rules, words_of))
+    c.zip.result (search (rules, words_of)) (λ i l. let k = c.zip.ensures i l in search rules)

@@ -1,12 +1,16 @@
 -- `Predicate::xor` meets its contract: XOR of words is `xor` of bits. Assumes nothing.
-use mathlib.Core.Bool.{xor}
-use Prim.Native.Nat.{ℕ}
-use lib.Bits.{bit_xor}
+use mathlib.Core.Bool.{not, xor, ◌&&◌, ◌||◌}
+use mathlib.Core.Path.{ap, ◌∙◌}
+use Prim.Native.Nat.{ℕ, ◌-◌, ◌^◌}
+use lib.Bits.{bit_and, bit_or, bit_xor}
 use borrow.Author.Rules.{rules}
-use Rattle.bits.proofs.Bits.{number-xor}
+use Rattle.bits.specs.Bits.{number}
+use Rattle.bits.proofs.Bits.{number-and, number-or, number-xor, number-not}
 use Rattle.predicates.proofs.Words.{words_of, pack-op}
 use Rattle.predicates.proofs.Predicate.xor.Goals as goal
 
 pub returns : goal.returns
 unfolding xor
-returns c = pack-op xor bit_xor (λ f g (at : ℕ). number-xor f g at 64) c.args.self c.args.other (search (rules, words_of)) (search (rules, words_of))
+returns c =
+    pack-op xor bit_xor (λ f g (at : ℕ). number-xor f g at 64) c.args.self c.args.other (search (rules, words_of)) (search (rules, words_of))
+    c.zip.result (search (rules, words_of)) (λ i l. let k = c.zip.ensures i l in search rules)
