@@ -135,34 +135,25 @@ impl Predicate {
     pub fn lowest(self) -> u64
         ensures { result ≡ first_from (bit_at self) 0 256 }
     {
-        let w = self.words;
-        if w[0] != 0 {
-            return bits::lowest_bit(w[0]);
+        for (i, word) in self.words.iter().enumerate() {
+            if *word != 0 {
+                return (i as u64) * 64 + bits::lowest_bit(*word);
+            }
         }
-        if w[1] != 0 {
-            return 64 + bits::lowest_bit(w[1]);
-        }
-        if w[2] != 0 {
-            return 128 + bits::lowest_bit(w[2]);
-        }
-        192 + bits::lowest_bit(w[3])
+        256
     }
 
     // One more than the highest bit set, or 0.
     pub fn after_highest(self) -> u64
         ensures { result ≡ after_last (bit_at self) 256 }
     {
-        let w = self.words;
-        if w[3] != 0 {
-            return 192 + bits::bit_length(w[3]);
+        for i in (0..4).rev() {
+            let word = self.words[i];
+            if word != 0 {
+                return (i as u64) * 64 + bits::bit_length(word);
+            }
         }
-        if w[2] != 0 {
-            return 128 + bits::bit_length(w[2]);
-        }
-        if w[1] != 0 {
-            return 64 + bits::bit_length(w[1]);
-        }
-        bits::bit_length(w[0])
+        0
     }
 
     // Word `i`, by comparisons: the words need not stand in memory to be chosen from.
@@ -373,42 +364,15 @@ fn bit_of(word: u64, b: u64) -> bool
 fn at_lowest(mask: Predicate, res: Predicate) -> bool
     ensures { result ≡ at_lowest (bit_at mask) (bit_at res) 256 }
 {
-    let m = mask.words;
-    let w = res.words;
-    if m[0] != 0 {
-        return bit_of(w[0], bits::lowest_bit(m[0]));
-    }
-    if m[1] != 0 {
-        return bit_of(w[1], bits::lowest_bit(m[1]));
-    }
-    if m[2] != 0 {
-        return bit_of(w[2], bits::lowest_bit(m[2]));
-    }
-    if m[3] != 0 {
-        return bit_of(w[3], bits::lowest_bit(m[3]));
-    }
-    false
+    res.bit(mask.lowest())
 }
 
 // The result at the highest bit of the mask.
 fn at_highest(mask: Predicate, res: Predicate) -> bool
     ensures { result ≡ at_highest (bit_at mask) (bit_at res) 256 }
 {
-    let m = mask.words;
-    let w = res.words;
-    if m[3] != 0 {
-        return bit_of(w[3], bits::bit_length(m[3]) + 63);
-    }
-    if m[2] != 0 {
-        return bit_of(w[2], bits::bit_length(m[2]) + 63);
-    }
-    if m[1] != 0 {
-        return bit_of(w[1], bits::bit_length(m[1]) + 63);
-    }
-    if m[0] != 0 {
-        return bit_of(w[0], bits::bit_length(m[0]) + 63);
-    }
-    false
+    let end = mask.after_highest();
+    0 < end && res.bit(end - 1)
 }
 
 // N, Z and C, with V clear, as the number NZCV.
