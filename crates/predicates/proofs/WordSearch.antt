@@ -18,6 +18,7 @@ use Rattle.bits.proofs.Bits.{number-none, number-whole, test_bit-zero, test_bit-
 use Rattle.bits.proofs.Searches.{never, count_add, count_cong, count_none, some_yes, some_no, First, first_found, first_is, first_cong, Last, last_found, last_is, last_le}
 use Rattle.bits.proofs.Sizes.{element_again}
 use Rattle.predicates.specs.declared.Predicate.{Predicate}
+use Rattle.predicates.specs.PredTest.{at_highest}
 use Rattle.predicates.specs.Predicate.{bit_at, active, spread}
 use Rattle.predicates.specs.Words.{Words}
 use Rattle.predicates.proofs.ElementBits.{at_start}
@@ -87,22 +88,23 @@ lowest_none p z =
       hit = λ h. absurd (omega arith);
     })
 
-pub highest_in : (p : Predicate) → Words p → (q x : ℕ) → q < 4 → From p (q + 1) → (word p q ≡ 0 → ⊥) → x ≡ q * 64 + after_last (test_bit (word p q)) 64 → x ≡ after_last (bit_at p) 256
-highest_in p ok q x h z n e =
+pub highest_in : (p : Predicate) (q x : ℕ) → q < 4 → From p (q + 1) → (0 < after_last (test_bit (word p q)) 64) ⊎ (q ≡ 0)
+    → x ≡ q * 64 + after_last (test_bit (word p q)) 64 → x ≡ after_last (bit_at p) 256
+highest_in p q x h z side e =
     let r = last_found (test_bit (word p q)) 64 in
-    let k : 0 < after_last (test_bit (word p q)) 64 = last_in (word p q) (ok.fit q) n in
+    let some : (b : ℕ) → x ≡ suc b → q * 64 ≤ b = λ b s. at_least side b s in
     last_is (bit_at p) 256 x (record {
       upto = omega (arith, r.upto);
       none = λ b l m. elim (dec_lt b (q * 64 + 64)) [
         | yes a ↦ at-word p q b (omega arith) a ∙ r.none (b - q * 64) (omega arith) (omega arith)
         | no a ↦ bit-of-none p b (z (b / 64) (omega arith))
       ];
-      hit = λ b s. at-word p q b (omega arith) (omega (arith, r.upto)) ∙ r.hit (b - q * 64) (omega arith);
+      hit = λ b s. at-word p q b (some b s) (omega (arith, r.upto)) ∙ r.hit (b - q * 64) (omega (arith, some b s));
     })
-
-pub highest_none : (p : Predicate) → From p 0 → 0 ≡ after_last (bit_at p) 256
-highest_none p z =
-    last_is (bit_at p) 256 0 (record { upto = omega arith; none = λ b l h. bit-of-none p b (z (b / 64) (omega arith)); hit = λ b h. absurd (omega arith) })
+  where
+    at_least : (0 < after_last (test_bit (word p q)) 64) ⊎ (q ≡ 0) → (b : ℕ) → x ≡ suc b → q * 64 ≤ b
+    at_least (inl k) b s = omega arith
+    at_least (inr k) b s = omega arith
 
 -- ---- the lowest bit from a bit on, under a mask
 
@@ -278,3 +280,26 @@ empty_words p ok =
             ]
           ]
         ]
+
+-- ---- PredTest's ends
+
+pub highest_test : (m r : Predicate) → Words m → (q : ℕ) → q < 4 → From m (q + 1) → (word m q ≡ 0 → ⊥) → (x : Bool) (b : ℕ) → b ≡ after_last (test_bit (word m q)) 64
+    → x ≡ test_bit (word r q) ((b + 63) % 64) → x ≡ at_highest (bit_at m) (bit_at r) 256
+unfolding at_highest
+highest_test m r ok q h z n x b eb ex =
+    let k : 0 < b = rw (← eb) at (last_in (word m q) (ok.fit q) n) in
+    let l : b ≤ 64 = rw (← eb) at (last_le (test_bit (word m q)) 64) in
+    let top : q * 64 + b ≡ after_last (bit_at m) 256 = highest_in m q (q * 64 + b) h z (inl (last_in (word m q) (ok.fit q) n)) (ap (λ (y : ℕ). q * 64 + y) eb) in
+    let place : (b + 63) % 64 ≡ b - 1 = omega arith in
+    ex ∙ ap (test_bit (word r q)) place ∙ sym (bit_in_word r q (b - 1) (omega arith)) ∙ ap (bit_at r) (omega arith)
+    ∙ sym (ap (λ (t : Bool). t && bit_at r (q * 64 + b - 1)) (lt-ltb 0 (q * 64 + b) (omega arith)))
+    ∙ ap (λ (y : ℕ). ltb 0 y && bit_at r (y - 1)) top
+
+pub highest_none : (m r : Predicate) → From m 0 → false ≡ at_highest (bit_at m) (bit_at r) 256
+unfolding at_highest
+highest_none m r z =
+    ap (λ (y : ℕ). ltb 0 y && bit_at r (y - 1)) (last_is (bit_at m) 256 0 (record {
+      upto = omega arith;
+      none = λ b l h. bit-of-none m b (z (b / 64) (omega arith));
+      hit = λ b h. absurd (omega arith);
+    }))

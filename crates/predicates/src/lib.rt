@@ -147,13 +147,13 @@ impl Predicate {
     pub fn after_highest(self) -> u64
         ensures { result ≡ after_last (bit_at self) 256 }
     {
-        for i in (0..4).rev() {
+        for i in (1..4).rev() {
             let word = self.words[i];
             if word != 0 {
                 return (i as u64) * 64 + bits::bit_length(word);
             }
         }
-        0
+        bits::bit_length(self.words[0])
     }
 
     // Word `i`, by comparisons: the words need not stand in memory to be chosen from.
@@ -371,8 +371,13 @@ fn at_lowest(mask: Predicate, res: Predicate) -> bool
 fn at_highest(mask: Predicate, res: Predicate) -> bool
     ensures { result ≡ at_highest (bit_at mask) (bit_at res) 256 }
 {
-    let end = mask.after_highest();
-    0 < end && res.bit(end - 1)
+    for i in (0..4).rev() {
+        let word = mask.words[i];
+        if word != 0 {
+            return bit_of(res.words[i], bits::bit_length(word) + 63);
+        }
+    }
+    false
 }
 
 // N, Z and C, with V clear, as the number NZCV.

@@ -1,24 +1,26 @@
--- `at_highest` meets its contract. Assumes nothing.
-use mathlib.Core.Bool.{Bool, ◌&&◌}
-use mathlib.Core.Path.{sym, ap, ◌∙◌}
-use Prim.Native.Nat.{ℕ, ◌-◌}
-use lib.Dec.{ltb}
-use borrow.Author.Tests.{lt-ltb, le-ltb}
-use Rattle.predicates.specs.PredTest.{at_highest}
-use Rattle.predicates.specs.Predicate.{bit_at}
+-- `at_highest` meets its contract: the words past the one looked at are 0. Assumes nothing.
+use Prim.Native.Nat.{◌-◌}
+use native.Mathlib.Omega.{arith}
+use borrow.Author.Rules.{rules}
+use Rattle.bits.specs.Bits.{test_bit}
+use Rattle.bits.proofs.Searches.{last_le}
+use Rattle.predicates.proofs.WordSearch.{from_four, from_pred, highest_test, highest_none}
+use Rattle.predicates.proofs.Words.{words_of, word}
 use Rattle.predicates.proofs.at_highest.Goals as goal
 
-pub returns-then-end-gt0 : goal.returns-then-end-gt0
-unfolding at_highest
-returns-then-end-gt0 c =
-    let end = c.after_highest-end.result in
-    c.bit.ensures ∙ sym (ap (λ (t : Bool). t && bit_at c.args.res (end - 1)) (lt-ltb 0 end c.if-end-gt0.true))
-    ∙ ap (λ (e : ℕ). ltb 0 e && bit_at c.args.res (e - 1)) c.after_highest-end.ensures
+pub loop-i-init : goal.loop-i-init
+loop-i-init c = from_four c.args.mask (search (rules, words_of))
 
-pub returns-else-end-gt0 : goal.returns-else-end-gt0
-unfolding at_highest
-returns-else-end-gt0 c =
-    let end = c.after_highest-end.result in
-    let none = le-ltb 0 end c.if-end-gt0.false in
-    none ∙ sym (ap (λ (t : Bool). t && bit_at c.args.res (end - 1)) none)
-    ∙ ap (λ (e : ℕ). ltb 0 e && bit_at c.args.res (e - 1)) c.after_highest-end.ensures
+pub overflow_add-bit_length : goal.overflow_add-bit_length
+overflow_add-bit_length c = omega (arith, last_le (test_bit (word c.args.mask (c.loop-i.i - 1))) 64)
+
+pub returns-then-word-ne0 : goal.returns-then-word-ne0
+returns-then-word-ne0 c =
+    highest_test c.args.mask c.args.res (search (rules, words_of)) (c.loop-i.i - 1) (omega arith) (λ j h. c.loop-i.invariant j (omega arith)) c.if-word-ne0.true _ _
+    c.bit_length.ensures c.bit_of.ensures
+
+pub loop-i-preserved : goal.loop-i-preserved
+loop-i-preserved c = from_pred c.args.mask c.loop-i.i c.loop-i.invariant c.if-word-ne0.false
+
+pub returns : goal.returns
+returns c = highest_none c.args.mask c.args.res (λ j h. c.loop-i.invariant j (omega arith))
