@@ -221,48 +221,31 @@ impl Predicate {
             return from;
         }
         let mask = bits::element_mask(size);
-        let mut i = (from / 64) as usize;
+        let start = (from / 64) as usize;
         // Of the first word, the bits from `from` on.
-        let mut word = ((self.words[i] & mask) >> (from % 64)) << (from % 64);
-        let found = loop {
+        let first = ((self.words[start] & mask) >> (from % 64)) << (from % 64);
+        if first != 0 {
+            return (start as u64) * 64 + bits::lowest_bit(first);
+        }
+        for i in start + 1..4 {
+            let word = self.words[i] & mask;
             if word != 0 {
-                break (i as u64) * 64 + bits::lowest_bit(word);
+                return (i as u64) * 64 + bits::lowest_bit(word);
             }
-            i += 1;
-            if 4 <= i {
-                break 256;
-            }
-            word = self.words[i] & mask;
-        };
-        found
+        }
+        256
     }
 
     // Only bit `b` set.
     pub fn only(b: u64) -> Predicate
         ensures { result ≡ pack (λ i. eqb i b) }
     {
-        let bit: u64 = 1 << (b % 64);
-        if b < 64 {
-            return Predicate {
-                words: [bit, 0, 0, 0],
-            };
+        if 256 <= b {
+            return Predicate::none();
         }
-        if b < 128 {
-            return Predicate {
-                words: [0, bit, 0, 0],
-            };
-        }
-        if b < 192 {
-            return Predicate {
-                words: [0, 0, bit, 0],
-            };
-        }
-        if b < 256 {
-            return Predicate {
-                words: [0, 0, 0, bit],
-            };
-        }
-        Predicate::none()
+        let mut words = [0; 4];
+        words[(b / 64) as usize] = 1 << (b % 64);
+        Predicate { words }
     }
 
     // The first `n` elements active.
@@ -271,18 +254,14 @@ impl Predicate {
     {
         let end = end_of(size, n);
         let e = bits::element_mask(size);
+        let word = |at| e & bits::low_mask(end, at);
         if end <= 64 {
             return Predicate {
-                words: [e & bits::low_mask(end, 0), 0, 0, 0],
+                words: [word(0), 0, 0, 0],
             };
         }
         Predicate {
-            words: [
-                e & bits::low_mask(end, 0),
-                e & bits::low_mask(end, 64),
-                e & bits::low_mask(end, 128),
-                e & bits::low_mask(end, 192),
-            ],
+            words: [word(0), word(64), word(128), word(192)],
         }
     }
 

@@ -1,46 +1,58 @@
 -- `Predicate::only` meets its contract: the bit stands in its own word, and the others are 0. Assumes nothing.
-use mathlib.Core.Path.{◌≡◌, sym, ap, ◌∙◌}
-use mathlib.Core.Logic.{◌⊎◌, inl, inr}
-use Prim.Native.Nat.{ℕ, ◌+◌, ◌*◌, ◌%◌, ◌^◌, ◌<◌, ◌≤◌}
-use native.Mathlib.Nat.{one-mul, mod-eq_of_lt}
+use mathlib.Core.List.{List, [], ◌∷◌}
+use mathlib.Core.Path.{◌≡◌, refl, sym, ap, ◌∙◌}
+use Prim.Native.Nat.{ℕ, zero, suc, ◌+◌, ◌*◌, ◌/◌, ◌%◌, ◌^◌, ◌<◌}
+use native.Mathlib.Decide.{dec_lt, ℕ_discrete}
+use native.Mathlib.Nat.{one-mul, mod-eq_of_lt, mod-lt}
 use native.Mathlib.Omega.{arith}
 use lib.Dec.{eqb}
+use lib.ListN.{get_or, set, length, length-set}
+use Rattle.std.proofs.lemmas.List.{get_or-set_same, get_or-set_other}
 use lib.Pow.{pow-lt}
 use borrow.Author.Tests.{ne_eqb}
 use Rattle.bits.specs.Bits.{number}
-use Rattle.bits.proofs.Bits.{number-only, number-none}
-use Rattle.predicates.proofs.Words.{four_words, pack_cong}
+use Rattle.bits.proofs.Bits.{number-only, number-none, number_lt}
+use Rattle.predicates.specs.Words.{Words}
+use Rattle.predicates.proofs.Words.{from_words, pack_cong}
 use Rattle.predicates.proofs.Predicate.only.Goals as goal
 
--- the word that starts at bit `at`, where it holds bit b, and where it does not
-here : (b at : ℕ) → at % 64 ≡ 0 → at ≤ b → b < at + 64 → (1 * 2 ^ (b % 64)) % 2 ^ 64 ≡ number (λ i. eqb i b) at 64
-here b at e l h =
-    let place : at + b % 64 ≡ b = omega arith in
-    rw (one-mul, mod-eq_of_lt (pow-lt {i = b % 64} {j = 64} (omega arith))) (sym (number-only at 64 (b % 64) (omega arith)) ∙ ap (λ (x : ℕ). number (λ i. eqb i x) at 64) place)
+abbrev zeros : List ℕ
+zeros = 0 ∷ 0 ∷ 0 ∷ 0 ∷ []
 
-elsewhere : (b at : ℕ) → (b < at) ⊎ (at + 64 ≤ b) → 0 ≡ number (λ i. eqb i b) at 64
-elsewhere b at (inl h) = sym (number-none (λ i. eqb i b) at 64 (λ i l. ne_eqb (at + i) b (omega arith)))
-elsewhere b at (inr h) = sym (number-none (λ i. eqb i b) at 64 (λ i l. ne_eqb (at + i) b (omega arith)))
+abbrev bit : ℕ → ℕ
+bit b = (1 * 2 ^ (b % 64)) % 2 ^ 64
 
-pub returns-then-b-lt64 : goal.returns-then-b-lt64
-returns-then-b-lt64 c =
-    let b = c.args.b in
-    four_words (λ i. eqb i b) _ _ _ _ (here b 0 (omega arith) (omega arith) (omega arith)) (elsewhere b 64 (inl (omega arith))) (elsewhere b 128 (inl (omega arith))) (elsewhere b 192 (inl (omega arith)))
+-- four words, of which the one of bit b has it
+abbrev with_bit : ℕ → List ℕ
+with_bit b = set zeros (b / 64) (bit b)
 
-pub returns-then-b-lt128 : goal.returns-then-b-lt128
-returns-then-b-lt128 c =
-    let b = c.args.b in
-    four_words (λ i. eqb i b) _ _ _ _ (elsewhere b 0 (inr (omega arith))) (here b 64 (omega arith) (omega arith) (omega arith)) (elsewhere b 128 (inl (omega arith))) (elsewhere b 192 (inl (omega arith)))
+nothing : (i : ℕ) → get_or zeros i 0 ≡ 0
+nothing zero = refl
+nothing (suc zero) = refl
+nothing (suc (suc zero)) = refl
+nothing (suc (suc (suc zero))) = refl
+nothing (suc (suc (suc (suc i)))) = refl
 
-pub returns-then-b-lt192 : goal.returns-then-b-lt192
-returns-then-b-lt192 c =
-    let b = c.args.b in
-    four_words (λ i. eqb i b) _ _ _ _ (elsewhere b 0 (inr (omega arith))) (elsewhere b 64 (inr (omega arith))) (here b 128 (omega arith) (omega arith) (omega arith)) (elsewhere b 192 (inl (omega arith)))
+word_is : (b i : ℕ) → b < 256 → get_or (with_bit b) i 0 ≡ number (λ j. eqb j b) (i * 64) 64
+word_is b i h =
+    elim (ℕ_discrete i (b / 64)) [
+      | yes e ↦
+          let place : i * 64 + b % 64 ≡ b = omega arith in
+          let small : bit b ≡ 2 ^ (b % 64) = rw one-mul (mod-eq_of_lt (pow-lt {i = b % 64} {j = 64} (omega arith))) in
+          ap (λ (k : ℕ). get_or (with_bit b) k 0) e ∙ get_or-set_same zeros (b / 64) (bit b) 0 (omega arith) ∙ small
+          ∙ sym (number-only (i * 64) 64 (b % 64) (omega arith)) ∙ ap (λ (x : ℕ). number (λ j. eqb j x) (i * 64) 64) place
+      | no n ↦
+          get_or-set_other zeros (b / 64) i (bit b) 0 n ∙ nothing i
+          ∙ sym (number-none (λ j. eqb j b) (i * 64) 64 (λ j l. ne_eqb (i * 64 + j) b (omega arith)))
+    ]
 
-pub returns-then-b-lt256 : goal.returns-then-b-lt256
-returns-then-b-lt256 c =
-    let b = c.args.b in
-    four_words (λ i. eqb i b) _ _ _ _ (elsewhere b 0 (inr (omega arith))) (elsewhere b 64 (inr (omega arith))) (elsewhere b 128 (inr (omega arith))) (here b 192 (omega arith) (omega arith) (omega arith))
+fits : (b : ℕ) → b < 256 → (i : ℕ) → get_or (with_bit b) i 0 < 2 ^ 64
+fits b h i = rw (word_is b i h) (number_lt (λ j. eqb j b) (i * 64) 64)
+
+pub returns-then-b-ge256 : goal.returns-then-b-ge256
+returns-then-b-ge256 c = c.none.ensures ∙ pack_cong _ _ (λ i l. sym (ne_eqb i c.args.b (omega arith)))
 
 pub returns : goal.returns
-returns c = c.none.ensures ∙ pack_cong _ _ (λ i l. sym (ne_eqb i c.args.b (omega arith)))
+returns c =
+    let b = c.args.b in
+    from_words (λ j. eqb j b) (record { words = with_bit b }) (record { four = length-set zeros (b / 64) (bit b); fit = fits b c.if-b-ge256.false }) (λ i l. word_is b i c.if-b-ge256.false)
