@@ -15,7 +15,7 @@ use borrow.Author.Tests.{lt-ltb, le-leb, lt-leb, leb-true, eq-eqb, ne_eqb}
 use Rattle.bits.specs.Bits.{test_bit, number, element_bit}
 use Rattle.bits.specs.Search.{count, some, first_from, after_last}
 use Rattle.bits.proofs.Bits.{number-none, number-whole, test_bit-zero, test_bit-number, test_bit-and, test_bit-from}
-use Rattle.bits.proofs.Searches.{never, count_add, count_cong, count_none, some_yes, some_no, First, first_found, first_is, first_cong, Last, last_found, last_is, last_le}
+use Rattle.bits.proofs.Searches.{never, count_add, count_cong, count_none, some_yes, some_no, first_found, first_is, first_cong, last_found, last_is, last_le}
 use Rattle.bits.proofs.Sizes.{element_again}
 use Rattle.predicates.specs.declared.Predicate.{Predicate}
 use Rattle.predicates.specs.PredTest.{at_highest}

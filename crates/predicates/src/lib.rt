@@ -72,7 +72,12 @@ impl Predicate {
         let p = self.words;
         let q = other.words;
         Predicate {
-            words: [join(p[0], q[0]), join(p[1], q[1]), join(p[2], q[2]), join(p[3], q[3])],
+            words: [
+                join(p[0], q[0]),
+                join(p[1], q[1]),
+                join(p[2], q[2]),
+                join(p[3], q[3]),
+            ],
         }
     }
 
@@ -240,12 +245,9 @@ impl Predicate {
     pub fn only(b: u64) -> Predicate
         ensures { result ≡ pack (λ i. eqb i b) }
     {
-        if 256 <= b {
-            return Predicate::none();
+        Predicate {
+            words: [word_of(b, 0), word_of(b, 1), word_of(b, 2), word_of(b, 3)],
         }
-        let mut words = [0; 4];
-        words[(b / 64) as usize] = 1 << (b % 64);
-        Predicate { words }
     }
 
     // The first `n` elements active.
@@ -329,6 +331,13 @@ fn end_of(size: Size, n: u64) -> u64
     ensures { result ≡ min n 256 * 2 ^ shift size }
 {
     n.min(256) << size.shift()
+}
+
+// Word `q` of the predicate that has only bit `b`. By a choice: a store at b / 64 makes the next read of the words wait.
+fn word_of(b: u64, q: u64) -> u64
+    ensures { result ≡ number (λ i. eqb i b) (q * 64) 64 }
+{
+    if b / 64 == q { 1 << (b % 64) } else { 0 }
 }
 
 // Whether bit `b` of a word is set, for a bit of the word.

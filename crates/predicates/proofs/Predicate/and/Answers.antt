@@ -1,11 +1,9 @@
 -- `Predicate::and` meets its contract: AND of words is `&&` of bits. Assumes nothing.
-use mathlib.Core.Bool.{not, xor, ◌&&◌, ◌||◌}
-use mathlib.Core.Path.{ap, ◌∙◌}
-use Prim.Native.Nat.{ℕ, ◌-◌, ◌^◌}
-use lib.Bits.{bit_and, bit_or, bit_xor}
+use mathlib.Core.Bool.{◌&&◌}
+use Prim.Native.Nat.{ℕ}
+use lib.Bits.{bit_and}
 use borrow.Author.Rules.{rules}
-use Rattle.bits.specs.Bits.{number}
-use Rattle.bits.proofs.Bits.{number-and, number-or, number-xor, number-not}
+use Rattle.bits.proofs.Bits.{number-and}
 use Rattle.predicates.proofs.Words.{words_of, pack-op}
 use Rattle.predicates.proofs.Predicate.and.Goals as goal
 

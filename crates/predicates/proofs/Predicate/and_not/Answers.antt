@@ -1,11 +1,11 @@
 -- `Predicate::and_not` meets its contract: AND with the complement of a word is the same of bits. Assumes nothing.
-use mathlib.Core.Bool.{not, xor, ◌&&◌, ◌||◌}
+use mathlib.Core.Bool.{not, ◌&&◌}
 use mathlib.Core.Path.{ap, ◌∙◌}
 use Prim.Native.Nat.{ℕ, ◌-◌, ◌^◌}
-use lib.Bits.{bit_and, bit_or, bit_xor}
+use lib.Bits.{bit_and}
 use borrow.Author.Rules.{rules}
 use Rattle.bits.specs.Bits.{number}
-use Rattle.bits.proofs.Bits.{number-and, number-or, number-xor, number-not}
+use Rattle.bits.proofs.Bits.{number-and, number-not}
 use Rattle.predicates.proofs.Words.{words_of, pack-op}
 use Rattle.predicates.proofs.Predicate.and_not.Goals as goal
 

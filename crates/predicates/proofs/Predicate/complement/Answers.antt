@@ -1,11 +1,8 @@
 -- `Predicate::complement` meets its contract: the complement of a word is `not` of its bits. Assumes nothing.
-use mathlib.Core.Bool.{not, xor, ◌&&◌, ◌||◌}
-use mathlib.Core.Path.{ap, ◌∙◌}
+use mathlib.Core.Bool.{not}
 use Prim.Native.Nat.{ℕ, ◌-◌, ◌^◌}
-use lib.Bits.{bit_and, bit_or, bit_xor}
 use borrow.Author.Rules.{rules}
-use Rattle.bits.specs.Bits.{number}
-use Rattle.bits.proofs.Bits.{number-and, number-or, number-xor, number-not}
+use Rattle.bits.proofs.Bits.{number-not}
 use Rattle.predicates.proofs.Words.{words_of, pack-op}
 use Rattle.predicates.proofs.Predicate.complement.Goals as goal
 

@@ -1,11 +1,9 @@
 -- `Predicate::xor` meets its contract: XOR of words is `xor` of bits. Assumes nothing.
-use mathlib.Core.Bool.{not, xor, ◌&&◌, ◌||◌}
-use mathlib.Core.Path.{ap, ◌∙◌}
-use Prim.Native.Nat.{ℕ, ◌-◌, ◌^◌}
-use lib.Bits.{bit_and, bit_or, bit_xor}
+use mathlib.Core.Bool.{xor}
+use Prim.Native.Nat.{ℕ}
+use lib.Bits.{bit_xor}
 use borrow.Author.Rules.{rules}
-use Rattle.bits.specs.Bits.{number}
-use Rattle.bits.proofs.Bits.{number-and, number-or, number-xor, number-not}
+use Rattle.bits.proofs.Bits.{number-xor}
 use Rattle.predicates.proofs.Words.{words_of, pack-op}
 use Rattle.predicates.proofs.Predicate.xor.Goals as goal
 
