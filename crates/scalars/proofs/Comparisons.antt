@@ -47,8 +47,10 @@ module _ (w : Width) (unsigned : Bool) (c : Condition) (a b n : ℕ) where
   stops operand i t s l e h = sym (first_hit _ i n l (ap not (sym (now operand i t s e) ∙ h))) ∙ s.sought
 
   -- all hold
-  pub ends : (operand i : ℕ) → At w unsigned c a b n operand i → n ≤ i → i ≡ held_of (comparison w unsigned c a b) n
-  ends operand i s l = sym (first_end _ i n l) ∙ s.sought
+  pub ends : (operand i : ℕ) → At w unsigned c a b n operand i → n ≤ i → n ≡ held_of (comparison w unsigned c a b) n
+  ends operand i s l =
+      let last : n ≡ i = omega (arith, s.within) in
+      last ∙ sym (first_end _ i n l) ∙ s.sought
 
 -- ---- the comparisons that held with all earlier ones
 
