@@ -1,8 +1,7 @@
 -- Laws of saturation: std's saturating sums stop where the definitions do. Assumes nothing.
-use Rattle.std.proofs.Common.{◌≡◌, ℕ, ◌+◌, ◌-◌, ◌^◌, ◌≤◌, ◌<◌, Bool, true, false, ℤ, pos, negsuc, ◌+ℤ◌, ◌-ℤ◌, min, arith, ap, ◌∙◌, le-ltb, lt-ltb, SFits, to_z, of_z, to_z-of_z, ap₂}
+use Rattle.std.proofs.Common.{◌≡◌, ℕ, ◌+◌, ◌-◌, ◌^◌, ◌≤◌, ◌<◌, Bool, false, ℤ, pos, negsuc, ◌+ℤ◌, ◌-ℤ◌, min, arith, ap, ◌∙◌, le-ltb, lt-ltb, SFits, to_z, of_z, to_z-of_z, ap₂}
 use native.Mathlib.Decide.{dec_lt}
 use lib.Dec.{ltb}
-use lib.IntN.{sub_ℕ}
 use mir.Syntax.{Width}
 use mir.Val.{hbits}
 use Rattle.bits.specs.Choice.{pick}

@@ -3,9 +3,12 @@
 // A saturating sum stops at the ends of its own range, signed or unsigned, and is extended to 64 bits.
 #![tactic(auto)]
 
-ghost use Rattle.std.specs.Prelude.{◌≡◌, ℕ};
+ghost use Rattle.std.specs.Prelude.{◌≡◌, ℕ, ℤ, pos, Some};
 ghost use Rattle.std.specs.Int.{Width, w32, w64};
 ghost use Rattle.std.proofs.Common.{to_z, of_z};
+ghost use Rattle.std.specs.Ordering.{int_cmp};
+ghost use Rattle.std.proofs.Common.{rules};
+ghost use Rattle.scalars.specs.Inside.{OrderedAs};
 ghost use Rattle.bits.specs.Search.{count};
 ghost use Rattle.scalars.specs.Value.{width_of, low_of, value_as};
 ghost use Rattle.scalars.specs.While.{holds, upward, next_operand, comparison, all_held};
@@ -56,19 +59,22 @@ pub fn counts_up(condition: Condition) -> bool
 }
 
 // What an instruction reads of a general register: all of it, or its low word.
-trait Operand: Copy {
-    // Its width.
+trait Operand: Copy + PartialOrd {
+    type Signed: Copy + PartialOrd;
+
     ghost width: { Width };
 
     // Its bits.
     ghost value: { Self → ℕ };
 
+    ghost number: { Self.Signed → ℤ };
+
     fn of(register: u64) -> Self
         ensures { value result ≡ low_of width register };
 
-    // Its value as a number, unsigned or signed.
-    fn number(self, unsigned: bool) -> i128
-        ensures { result ≡ value_as width unsigned (value self) };
+    // The bits in two's complement.
+    fn signed(self) -> Self::Signed
+        ensures { number result ≡ to_z width (value self) };
 
     // Incremented by one or decremented, wrapping at the width.
     fn next(self, up: bool) -> Self
@@ -77,29 +83,39 @@ trait Operand: Copy {
     // Moved by a count, saturated at the width and extended to 64 bits.
     fn saturated(self, decrement: bool, unsigned: bool, n: u16) -> u64
         ensures { result ≡ of_z w64 (saturated width unsigned (moved decrement (value_as width unsigned (value self)) n)) };
+
+    // Both types are ordered as numbers are.
+    ghost ordered: { OrderedAs Self.partial_cmp (λ x. pos (value x)) };
+
+    ghost signed_ordered: { OrderedAs Self.Signed.partial_cmp number };
 }
 
 impl Operand for u64 {
+    type Signed = i64;
+
     ghost width = { w64 };
 
     ghost value = { λ x. x };
+
+    ghost number = { λ z. z };
+
+    ghost ordered = { λ x y. Prim.search rules };
+
+    ghost signed_ordered = { λ x y. Prim.search rules };
 
     fn of(register: u64) -> u64 {
         register
     }
 
-    fn number(self, unsigned: bool) -> i128 {
-        if unsigned {
-            i128::from(self)
-        } else {
-            i128::from(self.cast_signed())
-        }
+    fn signed(self) -> i64 {
+        self.cast_signed()
     }
 
     fn next(self, up: bool) -> u64 {
         self.wrapping_add(if up { 1 } else { u64::MAX })
     }
 
+    #[tactic(auto, using(crate::proofs::Clamps::less_stops, crate::proofs::Clamps::more_stops))]
     fn saturated(self, decrement: bool, unsigned: bool, n: u16) -> u64 {
         let k = u64::from(n);
         match (unsigned, decrement) {
@@ -112,26 +128,31 @@ impl Operand for u64 {
 }
 
 impl Operand for u32 {
+    type Signed = i32;
+
     ghost width = { w32 };
 
     ghost value = { λ x. x };
+
+    ghost number = { λ z. z };
+
+    ghost ordered = { λ x y. Prim.search rules };
+
+    ghost signed_ordered = { λ x y. Prim.search rules };
 
     fn of(register: u64) -> u32 {
         low_word(register)
     }
 
-    fn number(self, unsigned: bool) -> i128 {
-        if unsigned {
-            i128::from(self)
-        } else {
-            i128::from(self.cast_signed())
-        }
+    fn signed(self) -> i32 {
+        self.cast_signed()
     }
 
     fn next(self, up: bool) -> u32 {
         self.wrapping_add(if up { 1 } else { u32::MAX })
     }
 
+    #[tactic(auto, using(crate::proofs::Clamps::less_stops, crate::proofs::Clamps::more_stops))]
     fn saturated(self, decrement: bool, unsigned: bool, n: u16) -> u64 {
         let k = u32::from(n);
         match (unsigned, decrement) {
@@ -143,16 +164,24 @@ impl Operand for u32 {
     }
 }
 
+fn holds<T: Copy + PartialOrd>(condition: Condition, a: T, b: T) -> bool
+    ensures { (x y : ℤ) → T.partial_cmp a b ≡ Some (int_cmp x y) → result ≡ holds condition x y }
+{
+    match condition {
+        Condition::Less => a < b,
+        Condition::LessEqual => a <= b,
+        Condition::GreaterEqual => a >= b,
+        Condition::Greater => a > b,
+    }
+}
+
 fn compare<T: Operand>(condition: Condition, unsigned: bool, a: T, b: T) -> bool
     ensures { result ≡ holds condition (value_as T.width unsigned (T.value a)) (value_as T.width unsigned (T.value b)) }
 {
-    let (x, y) = (a.number(unsigned), b.number(unsigned));
-    match condition {
-        Condition::Less => x < y,
-        Condition::LessEqual => x <= y,
-        Condition::GreaterEqual => x >= y,
-        Condition::Greater => x > y,
+    if unsigned {
+        return holds(condition, a, b);
     }
+    holds(condition, a.signed(), b.signed())
 }
 
 fn held_in<T: Operand>(condition: Condition, unsigned: bool, a: u64, b: u64, n: u64) -> u64
@@ -182,6 +211,7 @@ pub fn held(condition: Condition, unsigned: bool, wide: bool, a: u64, b: u64, n:
 }
 
 // A register moved by a count of elements, saturated at its width and extended to 64 bits.
+#[tactic(auto, unfolding(crate::specs::Saturate::saturating))]
 pub fn saturate(decrement: bool, unsigned: bool, wide: bool, x: u64, n: u16) -> u64
     ensures { result ≡ saturating (width_of wide) unsigned decrement x n }
 {

@@ -1,15 +1,7 @@
--- `saturated` of 32 bits meets its contract. Assumes nothing.
-use Rattle.std.proofs.Common.{true, false, ap, ◌∙◌, arith, of_z, to_z-of_z, w32, w64}
-use Rattle.scalars.proofs.Clamps.{less_stops, more_stops, signed_done}
+-- `saturated` of 32 bits meets its contract where the number is signed. Assumes nothing.
+use Rattle.std.proofs.Common.{true, false, ap, ◌∙◌, of_z, to_z-of_z, w32, w64}
+use Rattle.scalars.proofs.Clamps.{signed_done}
 use Rattle.scalars.proofs.U32Operand.saturated.Goals as goal
-
-pub returns-in-true-true : goal.returns-in-true-true
-returns-in-true-true c =
-    rw (c.in-true-true.is-0, c.in-true-true.is-1, c.from.ensures, c.saturating_sub.ensures, c.from-k.ensures) (ap (of_z w64) (less_stops _ _ _ (omega arith)))
-
-pub returns-in-true-false : goal.returns-in-true-false
-returns-in-true-false c =
-    rw (c.in-true-false.is-0, c.in-true-false.is-1, c.from-in-true-false.ensures, c.saturating_add.ensures, c.from-k.ensures) (ap (of_z w64) (more_stops _ _ _))
 
 pub returns-in-false-true : goal.returns-in-false-true
 returns-in-false-true c =
