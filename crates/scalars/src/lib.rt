@@ -67,6 +67,7 @@ trait Operand: Copy + PartialOrd {
     // Its bits.
     ghost value: { Self → ℕ };
 
+    // What a signed value stands for.
     ghost number: { Self.Signed → ℤ };
 
     fn of(register: u64) -> Self
@@ -115,7 +116,7 @@ impl Operand for u64 {
         self.wrapping_add(if up { 1 } else { u64::MAX })
     }
 
-    #[tactic(auto, using(crate::proofs::Clamps::less_stops, crate::proofs::Clamps::more_stops))]
+    #[tactic(auto, using(crate::proofs::Clamps::stops))]
     fn saturated(self, decrement: bool, unsigned: bool, n: u16) -> u64 {
         let k = u64::from(n);
         match (unsigned, decrement) {
@@ -152,7 +153,7 @@ impl Operand for u32 {
         self.wrapping_add(if up { 1 } else { u32::MAX })
     }
 
-    #[tactic(auto, using(crate::proofs::Clamps::less_stops, crate::proofs::Clamps::more_stops))]
+    #[tactic(auto, using(crate::proofs::Clamps::stops))]
     fn saturated(self, decrement: bool, unsigned: bool, n: u16) -> u64 {
         let k = u32::from(n);
         match (unsigned, decrement) {
@@ -164,6 +165,7 @@ impl Operand for u32 {
     }
 }
 
+// The comparison, where the order of `T` is that of numbers.
 fn holds<T: Copy + PartialOrd>(condition: Condition, a: T, b: T) -> bool
     ensures { (x y : ℤ) → T.partial_cmp a b ≡ Some (int_cmp x y) → result ≡ holds condition x y }
 {
@@ -175,6 +177,7 @@ fn holds<T: Copy + PartialOrd>(condition: Condition, a: T, b: T) -> bool
     }
 }
 
+// The comparison of two operands, unsigned or signed.
 fn compare<T: Operand>(condition: Condition, unsigned: bool, a: T, b: T) -> bool
     ensures { result ≡ holds condition (value_as T.width unsigned (T.value a)) (value_as T.width unsigned (T.value b)) }
 {
@@ -184,6 +187,7 @@ fn compare<T: Operand>(condition: Condition, unsigned: bool, a: T, b: T) -> bool
     holds(condition, a.signed(), b.signed())
 }
 
+// `held` at a width.
 fn held_in<T: Operand>(condition: Condition, unsigned: bool, a: u64, b: u64, n: u64) -> u64
     ensures { result ≡ count (all_held (comparison T.width unsigned condition (low_of T.width a) (low_of T.width b))) n }
 {
@@ -191,8 +195,7 @@ fn held_in<T: Operand>(condition: Condition, unsigned: bool, a: u64, b: u64, n: 
     let last = T::of(b);
     let mut operand = T::of(a);
     for i in 0..n {
-        let holds = compare(condition, unsigned, operand, last);
-        if !holds {
+        if !compare(condition, unsigned, operand, last) {
             return i;
         }
         operand = operand.next(up);

@@ -8,11 +8,11 @@ loop-i-init g c = rw c.of-operand.ensures (begin _ _ _ _ _ _)
 
 pub loop-i-preserved : goal.loop-i-preserved
 loop-i-preserved g c =
-    again _ _ _ _ _ _ _ _ _ _ _ c.loop-i.invariant c.loop-i-test.true (rw c.of-last.ensures at c.compare-holds.ensures) c.if-not-holds.false c.counts_up-up.ensures c.next-operand.ensures
+    again _ _ _ _ _ _ _ _ _ _ _ c.loop-i.invariant c.loop-i-test.true (rw c.of-last.ensures at c.compare.ensures) c.if-not-compare.false c.counts_up-up.ensures c.next-operand.ensures
 
-pub returns-then-not-holds : goal.returns-then-not-holds
-returns-then-not-holds g c =
-    stops _ _ _ _ _ _ _ _ _ c.loop-i.invariant c.loop-i-test.true (rw c.of-last.ensures at c.compare-holds.ensures) c.if-not-holds.true ∙ sym (held-count _ c.args.n)
+pub returns-then-not-compare : goal.returns-then-not-compare
+returns-then-not-compare g c =
+    stops _ _ _ _ _ _ _ _ _ c.loop-i.invariant c.loop-i-test.true (rw c.of-last.ensures at c.compare.ensures) c.if-not-compare.true ∙ sym (held-count _ c.args.n)
 
 pub returns : goal.returns
 returns g c = ends _ _ _ _ _ _ _ _ c.loop-i.invariant c.loop-i-test.false ∙ sym (held-count _ c.args.n)
