@@ -43,6 +43,7 @@ impl Counts {
             return size_by_size(p, vl);
         }
         let q = p.and(Predicate::live(vl, Size::B));
+        // Each way has its own call of `tally_in`, which is compiled in at both.
         if pl <= 64 {
             return counts_in(tally_in(first_planes(q)));
         }
@@ -72,6 +73,7 @@ impl Counts {
     }
 }
 
+// The counts, each by a count of its own.
 #[tactic(auto, unfolding(crate::specs::Counts::counts_of))]
 fn size_by_size(p: Predicate, vl: u64) -> Counts
     ensures { result ≡ counts_of vl p }
@@ -195,7 +197,7 @@ pub fn planes_of(p: Predicate) -> Planes
     four_words(a, b, c, d)
 }
 
-// The planes of its first word alone, which is enough where the others are zero.
+// The planes of its first word alone, which is enough where the others are zero. A function of its own, so that the zeros are known where it is compiled.
 pub fn first_planes(p: Predicate) -> Planes
     ensures { result ≡ planes_in true p }
 {
