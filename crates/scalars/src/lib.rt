@@ -44,7 +44,7 @@ pub fn bits_of(v: i64) -> u64
     v.cast_unsigned()
 }
 
-// The register's low word.
+// The register's low word: `as` takes only what fits.
 pub fn low_word(x: u64) -> u32
     ensures { result ≡ low_of w32 x }
 {
@@ -77,7 +77,7 @@ trait Operand: Copy + PartialOrd {
     fn signed(self) -> Self::Signed
         ensures { number result ≡ to_z width (value self) };
 
-    // Incremented by one or decremented, wrapping at the width.
+    // Incremented by one or decremented, wrapping at the width: all ones are -1.
     fn next(self, up: bool) -> Self
         ensures { value result ≡ next_operand width up (value self) };
 
