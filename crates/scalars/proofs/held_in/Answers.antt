@@ -15,4 +15,4 @@ returns-then-not-compare g c =
     stops _ _ _ _ _ _ _ _ _ c.loop-i.invariant c.loop-i-test.true (rw c.of-last.ensures at c.compare.ensures) c.if-not-compare.true ∙ sym (held-count _ c.args.n)
 
 pub returns : goal.returns
-returns g c = ends _ _ _ _ _ _ _ _ c.loop-i.invariant c.loop-i-test.false ∙ sym (held-count _ c.args.n)
+returns g c = ends _ _ _ _ _ _ _ _ c.loop-i.invariant c.loop-i.auto.i-end c.loop-i-test.false ∙ sym (held-count _ c.args.n)
