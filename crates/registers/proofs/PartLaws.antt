@@ -1,15 +1,17 @@
 -- The parts of a state: reads and writes of lists of words are reads and writes of predicates. Assumes nothing.
 use mathlib.Core.Bool.{Bool, true, false, not, ◌&&◌}
-use mathlib.Core.List.{List, [], ◌∷◌, ◌++◌}
-use mathlib.Core.Path.{◌≡◌, refl, sym, ap, ap₂, ◌∙◌}
+use mathlib.Core.List.{List, [], ◌∷◌, map}
+use mathlib.Core.Path.{◌≡◌, refl, sym, ap, ap₂, subst, ◌∙◌}
 use Prim.Native.Nat.{ℕ, zero, suc, ◌+◌, ◌*◌, ◌%◌, ◌^◌, ◌≤◌, ◌<◌, min}
 use native.Mathlib.Numerals.{add-one}
-use native.Mathlib.Nat.{not-suc-le-zero, le_of_suc-le-suc}
+use native.Mathlib.Nat.{add-zero, zero-add, not-suc-le-zero, le_of_suc-le-suc}
 use native.Mathlib.Omega.{arith}
 use lib.Bits.{bit_or, bit_xor}
 use lib.Dec.{leb, eqb}
-use lib.ListN.{get_or, set, length, take, get_or-eq_default}
-use lib.Seq.{set_out, take-suc, take-suc-set, take-length}
+use lib.ListN.{get_or, set, length, length-map, get_or-map}
+use lib.Seq.{set_out, ext_get_or}
+use denote.Param.Members.{Mut, Called}
+use Rattle.std.specs.Array.{IsMapOf, IsFromFnResult, IsFromFnResultFrom}
 use Rattle.bits.specs.Bits.{test_bit}
 use Rattle.bits.specs.Choice.{pick}
 use Rattle.bits.specs.Search.{some}
@@ -31,7 +33,7 @@ use Rattle.registers.specs.declared.State.{State}
 use Rattle.registers.specs.declared.parts.Settings.{Settings}
 use Rattle.registers.specs.State.{assembled, read_p, read_counts}
 use Rattle.registers.specs.Legal.{has_all_registers, settings_allowed, has_stray_bit, has_wrong_count, legal}
-use Rattle.registers.specs.Parts.{predicates_of, counts_from, flags_from, state_at, settings_of}
+use Rattle.registers.specs.Parts.{predicates_of, counts_as, counts_from, flags_from, state_at, settings_of}
 use Rattle.registers.proofs.Registers.{Sized}
 use Rattle.registers.proofs.Legality.{strays, by_counts, settings_has, quads, stray_union}
 
@@ -46,8 +48,11 @@ read_in [] i h = absurd (not-suc-le-zero h)
 read_in (w ∷ ws) zero h = refl
 read_in (w ∷ ws) (suc i) h = read_in ws i (le_of_suc-le-suc h)
 
-pub read_out : (l : List (List ℕ)) (i : ℕ) → length l ≤ i → all_false ≡ get_or (predicates_of l) i all_false
-read_out l i h = sym (get_or-eq_default (predicates_of l) all_false {n = i} (rw (predicates_length l) h))
+pub read_at : (l : List (List ℕ)) (i : ℕ) → record { words = get_or l i all_false.words } ≡ get_or (predicates_of l) i all_false
+unfolding predicates_of
+read_at [] i = refl
+read_at (w ∷ ws) zero = refl
+read_at (w ∷ ws) (suc i) = read_at ws i
 
 pub write_in : (l : List (List ℕ)) (i : ℕ) (q : Predicate) → predicates_of (set l i q.words) ≡ set (predicates_of l) i q
 unfolding predicates_of
@@ -55,13 +60,7 @@ write_in [] i q = refl
 write_in (w ∷ ws) zero q = refl
 write_in (w ∷ ws) (suc i) q = ap (λ (r : List Predicate). record { words = w } ∷ r) (write_in ws i q)
 
-pub write_out : (l : List (List ℕ)) (i : ℕ) (q : Predicate) → length l ≤ i → predicates_of l ≡ set (predicates_of l) i q
-write_out l i q h = sym (set_out (predicates_of l) i q (rw (predicates_length l) h))
-
 -- ---- counts
-
-abbrev pub counts_as : List ℕ → Counts
-counts_as c = record { b = get_or c 0 0; h = get_or c 1 0; s = get_or c 2 0; d = get_or c 3 0 }
 
 pub counts_length : (l : List (List ℕ)) → length (counts_from l) ≡ length l
 unfolding counts_from
@@ -74,8 +73,11 @@ counts_in_lem [] i h = absurd (not-suc-le-zero h)
 counts_in_lem (c ∷ cs) zero h = refl
 counts_in_lem (c ∷ cs) (suc i) h = counts_in_lem cs i (le_of_suc-le-suc h)
 
-pub counts_out : (l : List (List ℕ)) (i : ℕ) → length l ≤ i → no_counts ≡ get_or (counts_from l) i no_counts
-counts_out l i h = sym (get_or-eq_default (counts_from l) no_counts {n = i} (rw (counts_length l) h))
+pub counts_read : (l : List (List ℕ)) (i : ℕ) → counts_as (get_or l i (0 ∷ 0 ∷ 0 ∷ 0 ∷ [])) ≡ get_or (counts_from l) i no_counts
+unfolding counts_from
+counts_read [] i = refl
+counts_read (c ∷ cs) zero = refl
+counts_read (c ∷ cs) (suc i) = counts_read cs i
 
 pub counts_write : (l : List (List ℕ)) (i : ℕ) (k : Counts) → counts_from (set l i (k.b ∷ k.h ∷ k.s ∷ k.d ∷ [])) ≡ set (counts_from l) i k
 unfolding counts_from
@@ -163,23 +165,50 @@ pub by_numbers : (s : State) (b w r : Bool) (u : Predicate) (pl : ℕ) (p c : Li
 by_numbers s b w r u pl p c z hb n hu hp hw m ep ec hr =
     by_tallies s b w r u pl z hb n hu hp hw m (hr ∙ ap₂ (λ (ps : List Predicate) (cs : List Counts). not (some (unlike (leb pl 64) ps cs) (min (length ps) (length cs)))) ep ec)
 
--- ---- predicates copied one by one
+-- ---- arrays made element by element
 
-module _ {A : Type 0} where
-  pub copied_more : (l m : List A) (i : ℕ) (d v : A) → i < length l → i < length m → v ≡ get_or m i d → take i l ≡ take i m → take (i + 1) (set l i v) ≡ take (i + 1) m
-  copied_more l m i d v h k hv e =
-      rw (add-one i) (take-suc-set l i v h ∙ ap (λ (r : List A). r ++ (v ∷ [])) e ∙ ap (λ (a : A). take i m ++ (a ∷ [])) hv ∙ sym (take-suc m i d k))
+module _ {F A B : Type 0} (g : Mut F (A × Unit {0}) B) (h : A → B) where
+  -- where each call gives `h` of its argument, the array that `map` gives is that of `h`
+  pub mapped : (f : F) (xs : List A) (ys : List B) (n : ℕ) (d : A) → IsMapOf g f xs ys n → length xs ≡ n → ((p q : F) (x : A) (y : B) → Called g p (x, tt) y q → y ≡ h x) → ys ≡ map h xs
+  mapped f xs ys n d m e step =
+      ext_get_or (h d) ys (map h xs) (m.long ∙ sym (length-map xs h ∙ e))
+      (λ i k. let (p, q, call) = m.at i d (h d) (omega (arith, m.long)) in step p q _ _ call ∙ sym (get_or-map h xs i d))
 
-  pub copied_all : (l m : List A) (i : ℕ) → i ≡ length l → i ≡ length m → take i l ≡ take i m → l ≡ m
-  copied_all l m i h k e = sym (take-length l) ∙ ap (λ (n : ℕ). take n l) (sym h) ∙ e ∙ ap (λ (n : ℕ). take n m) k ∙ take-length m
+module _ {F B : Type 0} (g : Mut F (ℕ × Unit {0}) B) (f : F) (h : ℕ → B) (most : ℕ) (step : (i : ℕ) (y : B) (q : F) → i < most → Called g f (i, tt) y q → (y ≡ h i) × (q ≡ f)) where
+  made_from : (ys : List B) (i n j : ℕ) (d : B) → i + n ≤ most → IsFromFnResultFrom g f ys i n → j < n → get_or ys (i + j) d ≡ h (i + j)
+  made_from ys i zero j d a m l = absurd (omega arith)
+  made_from ys i (suc n) zero d a (q, y, at, call, rest) l = rw add-zero (at.1 d ∙ (step i y q (omega arith) call).0)
+  made_from ys i (suc n) (suc j) d a (q, y, at, call, rest) l =
+      let m : IsFromFnResultFrom g f ys (i + 1) n = subst (λ (p : F). IsFromFnResultFrom g p ys (i + 1) n) (step i y q (omega arith) call).1 rest in
+      let e : i + 1 + j ≡ i + suc j = omega arith in
+      ap (λ (k : ℕ). get_or ys k d) (sym e) ∙ made_from ys (i + 1) n j d (omega arith) m (omega arith) ∙ ap h e
 
-pub words_more : (r : List (List ℕ)) (p : List Predicate) (i : ℕ) (d : Predicate) → i < length r → i < length p → take i (predicates_of r) ≡ take i p
-    → take (i + 1) (predicates_of (set r i (get_or p i d).words)) ≡ take (i + 1) p
-words_more r p i d h k e = ap (take (i + 1)) (write_in r i (get_or p i d)) ∙ copied_more (predicates_of r) p i d (get_or p i d) (rw (predicates_length r) h) k refl e
+  -- where each call gives `h` of the index and leaves the function as it is, so has the array that it fills
+  pub made_of : (ys : List B) (i : ℕ) (d : B) → IsFromFnResult g f ys most → i < most → get_or ys i d ≡ h i
+  made_of ys i d m l = ap (λ (k : ℕ). get_or ys k d) (sym (zero-add i)) ∙ made_from ys 0 most i d (omega arith) m.each l ∙ ap h (zero-add i)
 
-pub numbers_more : (r : List (List ℕ)) (c : List Counts) (i : ℕ) (k : Counts) → i < length r → i < length c → k ≡ get_or c i no_counts → take i (counts_from r) ≡ take i c
-    → take (i + 1) (counts_from (set r i (k.b ∷ k.h ∷ k.s ∷ k.d ∷ []))) ≡ take (i + 1) c
-numbers_more r c i k h l hk e = ap (take (i + 1)) (counts_write r i k) ∙ copied_more (counts_from r) c i no_counts k (rw (counts_length r) h) l hk e
+pub words_back : (p : List Predicate) → predicates_of (map (λ q. q.words) p) ≡ p
+unfolding predicates_of
+words_back [] = refl
+words_back (q ∷ p) = ap (λ (r : List Predicate). q ∷ r) (words_back p)
+
+pub by_words : (l : List (List ℕ)) → map (λ w. record { words = w }) l ≡ predicates_of l
+unfolding predicates_of
+by_words [] = refl
+by_words (w ∷ l) = ap (λ (r : List Predicate). record { words = w } ∷ r) (by_words l)
+
+abbrev pub numbers_as : Counts → List ℕ
+numbers_as c = c.b ∷ c.h ∷ c.s ∷ c.d ∷ []
+
+pub numbers_back : (k : List Counts) → counts_from (map numbers_as k) ≡ k
+unfolding counts_from
+numbers_back [] = refl
+numbers_back (c ∷ k) = ap (λ (r : List Counts). c ∷ r) (numbers_back k)
+
+pub by_numbers_as : (l : List (List ℕ)) → map counts_as l ≡ counts_from l
+unfolding counts_from
+by_numbers_as [] = refl
+by_numbers_as (c ∷ l) = ap (λ (r : List Counts). counts_as c ∷ r) (by_numbers_as l)
 
 -- ---- the parts of a state make it again
 
