@@ -117,9 +117,12 @@ impl State {
     pub fn with_p(mut self, r: u64, q: Predicate) -> State
         ensures { result ≡ with_p self r q }
     {
-        let counts = Counts::of(q, self.vl);
         parts::put(&mut self.p, r, q);
-        parts::put(&mut self.counts, r, counts);
+        let i = r as usize;
+        // FFR has no counts, and none are worked out for it.
+        if i < COUNTED {
+            self.counts[i] = Counts::of(q, self.vl);
+        }
         self
     }
 
