@@ -16,13 +16,13 @@ use bits::Size;
 
 // A predicate register: bit b is bit b % 64 of word b / 64.
 #[repr(C)]
-#[derive(Clone, Copy)]
+#[derive(Clone, Copy, PartialEq, Eq, Debug)]
 pub struct Predicate {
     pub words: [u64; 4],
 }
 
 #[repr(C)]
-#[derive(Clone, Copy)]
+#[derive(Clone, Copy, PartialEq, Eq, Debug)]
 pub struct Flags {
     pub n: bool,
     pub z: bool,

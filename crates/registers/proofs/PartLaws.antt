@@ -3,7 +3,6 @@ use mathlib.Core.Bool.{Bool, true, false, not, ◌&&◌}
 use mathlib.Core.List.{List, [], ◌∷◌, map}
 use mathlib.Core.Path.{◌≡◌, refl, sym, ap, ap₂, subst, ◌∙◌}
 use Prim.Native.Nat.{ℕ, zero, suc, ◌+◌, ◌*◌, ◌%◌, ◌^◌, ◌≤◌, ◌<◌, min}
-use native.Mathlib.Numerals.{add-one}
 use native.Mathlib.Nat.{add-zero, zero-add, not-suc-le-zero, le_of_suc-le-suc}
 use native.Mathlib.Omega.{arith}
 use lib.Bits.{bit_or, bit_xor}
@@ -12,14 +11,10 @@ use lib.ListN.{get_or, set, length, length-map, get_or-map}
 use lib.Seq.{set_out, ext_get_or}
 use denote.Param.Members.{Mut, Called}
 use Rattle.std.specs.Array.{IsMapOf, IsFromFnResult, IsFromFnResultFrom}
-use Rattle.bits.specs.Bits.{test_bit}
-use Rattle.bits.specs.Choice.{pick}
 use Rattle.bits.specs.Search.{some}
 use Rattle.bits.proofs.Searches.{never, some_cong, some-none}
-use Rattle.predicates.specs.declared.Flags.{Flags}
 use Rattle.predicates.specs.declared.Predicate.{Predicate}
 use Rattle.predicates.specs.Predicate.{all_false, pack, bit_at, predicate_length, has_bit_from}
-use Rattle.predicates.specs.PredTest.{flags_of}
 use Rattle.predicates.proofs.Lengths.{length_quads}
 use Rattle.tally.specs.declared.Counts.{Counts}
 use Rattle.tally.specs.Counts.{counts_of, no_counts, same_counts}
@@ -33,7 +28,7 @@ use Rattle.registers.specs.declared.State.{State}
 use Rattle.registers.specs.declared.parts.Settings.{Settings}
 use Rattle.registers.specs.State.{assembled, read_p, read_counts}
 use Rattle.registers.specs.Legal.{has_all_registers, settings_allowed, has_stray_bit, has_wrong_count, legal}
-use Rattle.registers.specs.Parts.{predicates_of, counts_as, counts_from, flags_from, state_at, settings_of}
+use Rattle.registers.specs.Parts.{predicates_of, counts_as, counts_from, state_at, settings_of}
 use Rattle.registers.proofs.Registers.{Sized}
 use Rattle.registers.proofs.Legality.{strays, by_counts, settings_has, quads, stray_union}
 
@@ -90,15 +85,6 @@ counts_written l i k e h = counts_write l i k ∙ ap (set (counts_from l) i) h
 
 pub counts_write_out : (l : List (List ℕ)) (i : ℕ) (k : Counts) → length l ≤ i → counts_from l ≡ set (counts_from l) i k
 counts_write_out l i k h = sym (set_out (counts_from l) i k (rw (counts_length l) h))
-
--- ---- flags, set or kept
-
-pub flags_kept : (l : List Bool) (sets : Bool) (f : ℕ) → sets ≡ false → flags_from l ≡ pick sets (flags_of f) (flags_from l)
-flags_kept l sets f h = sym (ap (λ (b : Bool). pick b (flags_of f) (flags_from l)) h)
-
-pub flags_written : (l : List Bool) (sets : Bool) (f : ℕ) → sets ≡ true → flags_from (test_bit f 3 ∷ test_bit f 2 ∷ test_bit f 1 ∷ test_bit f 0 ∷ []) ≡ pick sets (flags_of f) (flags_from l)
-unfolding flags_of
-flags_written l sets f h = sym (ap (λ (b : Bool). pick b (flags_of f) (flags_from l)) h)
 
 -- ---- legality, from the lengths, from the union of the predicates and from the counts
 
@@ -217,7 +203,3 @@ pub parts_are : (s : State) (u : Settings) (f : List Bool) (p c : List (List ℕ
 parts_are s u f p c hu hf hp hc =
     ap (λ (v : Settings). state_at v f s.x p c) hu ∙ ap (λ (b : List Bool). state_at (settings_of s) b s.x p c) hf
     ∙ ap₂ (assembled s.vl s.level s.access s.flags s.x) hp hc
-
-pub state_made : (u : Settings) (f : List Bool) (g : Flags) (x : List ℕ) (p c : List (List ℕ)) (q : List Predicate) (k : List Counts) → g ≡ flags_from f → q ≡ predicates_of p
-    → k ≡ counts_from c → assembled u.vl u.level u.access g x q k ≡ state_at u f x p c
-state_made u f g x p c q k hg hq hk = λ i. assembled u.vl u.level u.access (hg i) x (hq i) (hk i)

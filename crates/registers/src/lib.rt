@@ -28,7 +28,7 @@ pub const PREDICATES: usize = 17;
 pub const COUNTED: usize = 16;
 
 #[repr(C)]
-#[derive(Clone, Copy)]
+#[derive(Clone, Copy, PartialEq, Eq, Debug)]
 pub struct State {
     // The vector length in bits.
     pub vl: u64,

@@ -13,7 +13,7 @@ use predicates::Predicate;
 
 // How many elements are true at each size.
 #[repr(C)]
-#[derive(Clone, Copy)]
+#[derive(Clone, Copy, PartialEq, Eq, Debug)]
 pub struct Counts {
     pub b: u16,
     pub h: u16,

@@ -1,6 +1,6 @@
 -- `counts_agree` meets its contract: the number joined so far is 0 exactly if the registers so far agree. Assumes nothing.
 use mathlib.Core.Bool.{not}
-use mathlib.Core.Path.{◌≡◌, refl, sym, ap, ap₂, ◌∙◌}
+use mathlib.Core.Path.{◌≡◌, refl, ap, ◌∙◌}
 use Prim.Native.Nat.{ℕ, ◌+◌, min}
 use borrow.Author.Rules.{rules}
 use native.Mathlib.Omega.{arith}

@@ -1,5 +1,4 @@
 -- `counts_at` meets its contract. Assumes nothing.
-use borrow.Author.Rules.{rules}
 use mathlib.Core.Path.{ap, ◌∙◌}
 use Rattle.registers.specs.Parts.{counts_as}
 use Rattle.registers.proofs.PartLaws.{counts_read}

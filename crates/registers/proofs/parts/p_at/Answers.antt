@@ -1,8 +1,7 @@
 -- `p_at` meets its contract. Assumes nothing.
 use mathlib.Core.List.{List}
-use mathlib.Core.Path.{◌≡◌, ap, ◌∙◌}
+use mathlib.Core.Path.{ap, ◌∙◌}
 use Prim.Native.Nat.{ℕ}
-use Rattle.registers.specs.State.{all_false}
 use lib.ListN.{get_or}
 use Rattle.predicates.specs.declared.Predicate.{Predicate}
 use Rattle.registers.proofs.PartLaws.{read_at}

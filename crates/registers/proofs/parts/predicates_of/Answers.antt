@@ -1,8 +1,7 @@
 -- `predicates_of` meets its contract. Assumes nothing.
 use borrow.Author.Rules.{rules}
-use mathlib.Core.List.{List, []}
+use mathlib.Core.List.{[]}
 use mathlib.Core.Path.{◌≡◌, ◌∙◌}
-use Prim.Native.Nat.{ℕ}
 use lib.ListN.{length}
 use Rattle.registers.proofs.Registers.{length_mapped}
 use Rattle.registers.proofs.PartLaws.{mapped, by_words}
