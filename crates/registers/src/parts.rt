@@ -42,6 +42,20 @@ pub(crate) fn put<T: Copy + Drop>(items: &mut [T], r: u64, v: T)
     }
 }
 
+// A predicate's words.
+fn words_in(q: Predicate) -> [u64; 4]
+    ensures { result ≡ q.words }
+{
+    q.words
+}
+
+// The predicate of these words.
+fn predicate_in(words: [u64; 4]) -> Predicate
+    ensures { result ≡ record { words = words } }
+{
+    Predicate { words }
+}
+
 // The counts of a register's numbers: those of B, H, S and D.
 fn counts_in(c: [u16; 4]) -> Counts
     ensures { result ≡ counts_as c }
@@ -175,14 +189,14 @@ pub fn is_legal(settings: Settings, x: &[u64], p: &[[u64; 4]], counts: &[[u16; 4
 pub fn words_of(p: [Predicate; PREDICATES]) -> [[u64; 4]; PREDICATES]
     ensures { predicates_of result ≡ p }
 {
-    p.map(|q| -> [u64; 4] ensures { result ≡ q.words } { q.words })
+    p.map(words_in)
 }
 
 // The predicates of these words.
 pub fn predicates_of(p: [[u64; 4]; PREDICATES]) -> [Predicate; PREDICATES]
     ensures { result ≡ predicates_of p }
 {
-    p.map(|words| -> Predicate ensures { result ≡ record { words = words } } { Predicate { words } })
+    p.map(predicate_in)
 }
 
 // Each register's counts, as those of B, H, S and D.
