@@ -1,16 +1,17 @@
 -- The parts of a state: reads and writes of lists of words are reads and writes of predicates. Assumes nothing.
 use mathlib.Core.Bool.{Bool, true, false, not, ◌&&◌}
-use mathlib.Core.List.{List, [], ◌∷◌, map}
+use mathlib.Core.List.{List, [], ◌∷◌, ◌++◌, map}
 use mathlib.Core.Path.{◌≡◌, refl, sym, ap, ap₂, subst, ◌∙◌}
 use Prim.Native.Nat.{ℕ, zero, suc, ◌+◌, ◌*◌, ◌%◌, ◌^◌, ◌≤◌, ◌<◌, min}
+use native.Mathlib.Numerals.{add-one}
 use native.Mathlib.Nat.{add-zero, zero-add, not-suc-le-zero, le_of_suc-le-suc}
 use native.Mathlib.Omega.{arith}
 use lib.Bits.{bit_or, bit_xor}
 use lib.Dec.{leb, eqb}
-use lib.ListN.{get_or, set, length, length-map, get_or-map}
-use lib.Seq.{set_out, ext_get_or}
+use lib.ListN.{get_or, set, take, length, length-map, get_or-map}
+use lib.Seq.{set_out, ext_get_or, take-suc, take-suc-set, take-length, get_or-take, length-take-le}
 use denote.Param.Members.{Mut, Called}
-use Rattle.std.specs.Array.{IsMapOf, IsFromFnResult, IsFromFnResultFrom}
+use Rattle.std.specs.Array.{IsFromFnResult, IsFromFnResultFrom}
 use Rattle.bits.specs.Search.{some}
 use Rattle.bits.proofs.Searches.{never, some_cong, some-none}
 use Rattle.predicates.specs.declared.Predicate.{Predicate}
@@ -153,13 +154,6 @@ by_numbers s b w r u pl p c z hb n hu hp hw m ep ec hr =
 
 -- ---- arrays made element by element
 
-module _ {F A B : Type 0} (g : Mut F (A × Unit {0}) B) (h : A → B) where
-  -- where each call gives `h` of its argument, the array that `map` gives is that of `h`
-  pub mapped : (f : F) (xs : List A) (ys : List B) (n : ℕ) (d : A) → IsMapOf g f xs ys n → length xs ≡ n → ((p q : F) (x : A) (y : B) → Called g p (x, tt) y q → y ≡ h x) → ys ≡ map h xs
-  mapped f xs ys n d m e step =
-      ext_get_or (h d) ys (map h xs) (m.long ∙ sym (length-map xs h ∙ e))
-      (λ i k. let (p, q, call) = m.at i d (h d) (omega (arith, m.long)) in step p q _ _ call ∙ sym (get_or-map h xs i d))
-
 module _ {F B : Type 0} (g : Mut F (ℕ × Unit {0}) B) (f : F) (h : ℕ → B) (most : ℕ) (step : (i : ℕ) (y : B) (q : F) → i < most → Called g f (i, tt) y q → (y ≡ h i) × (q ≡ f)) where
   made_from : (ys : List B) (i n j : ℕ) (d : B) → i + n ≤ most → IsFromFnResultFrom g f ys i n → j < n → get_or ys (i + j) d ≡ h (i + j)
   made_from ys i zero j d a m l = absurd (omega arith)
@@ -173,28 +167,45 @@ module _ {F B : Type 0} (g : Mut F (ℕ × Unit {0}) B) (f : F) (h : ℕ → B) 
   pub made_of : (ys : List B) (i : ℕ) (d : B) → IsFromFnResult g f ys most → i < most → get_or ys i d ≡ h i
   made_of ys i d m l = ap (λ (k : ℕ). get_or ys k d) (sym (zero-add i)) ∙ made_from ys 0 most i d (omega arith) m.each l ∙ ap h (zero-add i)
 
-pub words_back : (p : List Predicate) → predicates_of (map (λ q. q.words) p) ≡ p
-unfolding predicates_of
-words_back [] = refl
-words_back (q ∷ p) = ap (λ (r : List Predicate). q ∷ r) (words_back p)
+-- where each call gives `h` of the element at the index, it is `h` of the first elements
+module _ {F A B : Type 0} (g : Mut F (ℕ × Unit {0}) B) (h : A → B) (f : F) (xs : List A) (ys : List B) (n : ℕ) (d : A) (m : IsFromFnResult g f ys n) where
+  pub filled_front : n ≤ length xs → ((i : ℕ) (y : B) (q : F) → i < n → Called g f (i, tt) y q → (y ≡ h (get_or xs i d)) × (q ≡ f)) → ys ≡ map h (take n xs)
+  filled_front e step =
+      ext_get_or (h d) ys (map h (take n xs)) (m.long ∙ sym (length-map (take n xs) h ∙ length-take-le n xs e))
+      (λ i k.
+      let b : i < n = omega (arith, m.long) in
+      made_of g f (λ j. h (get_or xs j d)) n step ys i (h d) m b ∙ sym (get_or-map h (take n xs) i d ∙ ap h (get_or-take n xs i d b)))
+
+  pub filled : length xs ≡ n → ((i : ℕ) (y : B) (q : F) → i < n → Called g f (i, tt) y q → (y ≡ h (get_or xs i d)) × (q ≡ f)) → ys ≡ map h xs
+  filled e step = filled_front (omega arith) step ∙ ap (λ (k : ℕ). map h (take k xs)) (sym e) ∙ ap (map h) (take-length xs)
 
 pub by_words : (l : List (List ℕ)) → map (λ w. record { words = w }) l ≡ predicates_of l
 unfolding predicates_of
 by_words [] = refl
 by_words (w ∷ l) = ap (λ (r : List Predicate). record { words = w } ∷ r) (by_words l)
 
-abbrev pub numbers_as : Counts → List ℕ
-numbers_as c = c.b ∷ c.h ∷ c.s ∷ c.d ∷ []
-
-pub numbers_back : (k : List Counts) → counts_from (map numbers_as k) ≡ k
-unfolding counts_from
-numbers_back [] = refl
-numbers_back (c ∷ k) = ap (λ (r : List Counts). c ∷ r) (numbers_back k)
-
 pub by_numbers_as : (l : List (List ℕ)) → map counts_as l ≡ counts_from l
 unfolding counts_from
 by_numbers_as [] = refl
 by_numbers_as (c ∷ l) = ap (λ (r : List Counts). counts_as c ∷ r) (by_numbers_as l)
+
+-- ---- arrays written element by element
+
+module _ {A : Type 0} where
+  pub copied_more : (l m : List A) (i : ℕ) (d v : A) → i < length l → i < length m → v ≡ get_or m i d → take i l ≡ take i m → take (i + 1) (set l i v) ≡ take (i + 1) m
+  copied_more l m i d v h k hv e =
+      rw (add-one i) (take-suc-set l i v h ∙ ap (λ (r : List A). r ++ (v ∷ [])) e ∙ ap (λ (a : A). take i m ++ (a ∷ [])) hv ∙ sym (take-suc m i d k))
+
+  pub copied_all : (l m : List A) (i : ℕ) → i ≡ length l → i ≡ length m → take i l ≡ take i m → l ≡ m
+  copied_all l m i h k e = sym (take-length l) ∙ ap (λ (n : ℕ). take n l) (sym h) ∙ e ∙ ap (λ (n : ℕ). take n m) k ∙ take-length m
+
+pub words_more : (r : List (List ℕ)) (p : List Predicate) (i : ℕ) (d : Predicate) → i < length r → i < length p → take i (predicates_of r) ≡ take i p
+    → take (i + 1) (predicates_of (set r i (get_or p i d).words)) ≡ take (i + 1) p
+words_more r p i d h k e = ap (take (i + 1)) (write_in r i (get_or p i d)) ∙ copied_more (predicates_of r) p i d (get_or p i d) (rw (predicates_length r) h) k refl e
+
+pub numbers_more : (r : List (List ℕ)) (c : List Counts) (i : ℕ) (k : Counts) → i < length r → i < length c → k ≡ get_or c i no_counts → take i (counts_from r) ≡ take i c
+    → take (i + 1) (counts_from (set r i (k.b ∷ k.h ∷ k.s ∷ k.d ∷ []))) ≡ take (i + 1) c
+numbers_more r c i k h l hk e = ap (take (i + 1)) (counts_write r i k) ∙ copied_more (counts_from r) c i no_counts k (rw (counts_length r) h) l hk e
 
 -- ---- the parts of a state make it again
 

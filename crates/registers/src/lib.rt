@@ -5,7 +5,7 @@
 // a predicate has a bit at or above VL/8, or a count is wrong: reply 4 refuses it. State's methods take the state by value and return it; `parts` has the same over registers lent one by one.
 #![tactic(auto)]
 
-ghost use Rattle.std.specs.Prelude.{◌≡◌, get_or, length};
+ghost use Rattle.std.specs.Prelude.{◌≡◌, get_or, set};
 ghost use Rattle.bits.specs.Search.{some};
 ghost use Rattle.predicates.specs.Predicate.{bit_at, pack, all_false};
 ghost use Rattle.registers.specs.State.{all_counts, made, counted, read_x, read_p, read_counts, with_x, with_p, with_flags};
@@ -88,28 +88,28 @@ impl State {
     pub fn read_x(self, r: u64) -> u64
         ensures { result ≡ read_x self r }
     {
-        parts::item(&self.x, r, 0)
+        item(&self.x, r, 0)
     }
 
     // P0 to P15, and FFR by number 16; number 17 and above read as all false.
     pub fn read_p(self, r: u64) -> Predicate
         ensures { result ≡ read_p self r }
     {
-        parts::item(&self.p, r, Predicate::none())
+        item(&self.p, r, Predicate::none())
     }
 
     // The counts beside P0 to P15; number 16 and above read as zeros.
     pub fn read_counts(self, r: u64) -> Counts
         ensures { result ≡ read_counts self r }
     {
-        parts::item(&self.counts, r, Counts::none())
+        item(&self.counts, r, Counts::none())
     }
 
     // The state with Xr anew; a write past X30 vanishes.
     pub fn with_x(mut self, r: u64, v: u64) -> State
         ensures { result ≡ with_x self r v }
     {
-        parts::put(&mut self.x, r, v);
+        put(&mut self.x, r, v);
         self
     }
 
@@ -117,7 +117,7 @@ impl State {
     pub fn with_p(mut self, r: u64, q: Predicate) -> State
         ensures { result ≡ with_p self r q }
     {
-        parts::put(&mut self.p, r, q);
+        put(&mut self.p, r, q);
         let i = r as usize;
         // FFR has no counts, and none are worked out for it.
         if i < COUNTED {
@@ -163,4 +163,21 @@ fn all_counts(p: [Predicate; PREDICATES], vl: u64) -> [Counts; COUNTED]
     ensures { result ≡ all_counts vl p }
 {
     std::array::from_fn(|i| Counts::of(p[i], vl))
+}
+
+// Item r, or `none` past the last.
+fn item<T: Copy + Drop>(items: &[T], r: u64, none: T) -> T
+    ensures { result ≡ get_or items.now r none }
+{
+    items.get(r as usize).copied().unwrap_or(none)
+}
+
+// A write past the last item vanishes.
+fn put<T: Copy + Drop>(items: &mut [T], r: u64, v: T)
+    ensures { items.new ≡ set items.old r v }
+{
+    let i = r as usize;
+    if i < items.len() {
+        items[i] = v;
+    }
 }

@@ -10,7 +10,7 @@ ghost use Rattle.registers.specs.State.{x_registers, register_count, counted_reg
 ghost use Rattle.registers.specs.Legal.{legal};
 ghost use Rattle.registers.specs.Parts.{predicates_of, counts_as, counts_from, flags_from, state_at};
 
-use super::{COUNTED, PREDICATES, State, X_REGISTERS};
+use super::{COUNTED, PREDICATES, State, X_REGISTERS, item, put};
 use predicates::{Flags, Predicate};
 use tally::Counts;
 
@@ -23,37 +23,6 @@ pub struct Settings {
     // 0 none, 1 SVE, 2 SVE2, 3 SVE2p1.
     pub level: u8,
     pub access: bool,
-}
-
-// Item r, or `none` past the last.
-pub(crate) fn item<T: Copy + Drop>(items: &[T], r: u64, none: T) -> T
-    ensures { result ≡ get_or items.now r none }
-{
-    items.get(r as usize).copied().unwrap_or(none)
-}
-
-// A write past the last item vanishes.
-pub(crate) fn put<T: Copy + Drop>(items: &mut [T], r: u64, v: T)
-    ensures { items.new ≡ set items.old r v }
-{
-    let i = r as usize;
-    if i < items.len() {
-        items[i] = v;
-    }
-}
-
-// A predicate's words.
-fn words_in(q: Predicate) -> [u64; 4]
-    ensures { result ≡ q.words }
-{
-    q.words
-}
-
-// The predicate of these words.
-fn predicate_in(words: [u64; 4]) -> Predicate
-    ensures { result ≡ record { words = words } }
-{
-    Predicate { words }
 }
 
 // The counts of a register's numbers: those of B, H, S and D.
@@ -185,32 +154,40 @@ pub fn is_legal(settings: Settings, x: &[u64], p: &[[u64; 4]], counts: &[[u16; 4
     counts_agree(p, counts, pl <= 64)
 }
 
-// Each predicate by its words.
+// Each predicate by its words. By index: `map` moves each element through an `Option`, and of a closure that returns an array no fact is known.
 pub fn words_of(p: [Predicate; PREDICATES]) -> [[u64; 4]; PREDICATES]
     ensures { predicates_of result ≡ p }
 {
-    p.map(words_in)
+    let mut rows = [[0; 4]; PREDICATES];
+    for r in 0..PREDICATES {
+        rows[r] = p[r].words;
+    }
+    rows
 }
 
-// The predicates of these words.
+// The predicates of these words. By index, since `map` is slower.
 pub fn predicates_of(p: [[u64; 4]; PREDICATES]) -> [Predicate; PREDICATES]
     ensures { result ≡ predicates_of p }
 {
-    p.map(predicate_in)
+    std::array::from_fn(|r| Predicate { words: p[r] })
 }
 
 // Each register's counts, as those of B, H, S and D.
 pub fn numbers_of(counts: [Counts; COUNTED]) -> [[u16; 4]; COUNTED]
     ensures { counts_from result ≡ counts }
 {
-    counts.map(numbers_in)
+    let mut rows = [[0; 4]; COUNTED];
+    for r in 0..COUNTED {
+        rows[r] = numbers_in(counts[r]);
+    }
+    rows
 }
 
 // The counts of these numbers.
 pub fn counts_of(counts: [[u16; 4]; COUNTED]) -> [Counts; COUNTED]
     ensures { result ≡ counts_from counts }
 {
-    counts.map(counts_in)
+    std::array::from_fn(|r| counts_in(counts[r]))
 }
 
 // N, Z, C and V.
