@@ -134,7 +134,8 @@ impl State {
         self
     }
 
-    // Whether reply 4 does not refuse the state.
+    // Whether reply 4 does not refuse the state. Compiled into a walk, it would have the state copied there for each register that is read.
+    #[inline(never)]
     pub fn is_legal(self) -> bool
         ensures { result ≡ legal self }
     {
