@@ -4,9 +4,9 @@ use Rattle.std.specs.Prelude.{Ok, Err}
 use mathlib.Core.Bool.{Bool, true, false, not}
 use mathlib.Core.List.{List, [], ◌∷◌, ◌++◌}
 use mathlib.Core.Path.{◌≡◌, refl, sym, ap, ◌∙◌}
-use Prim.Native.Nat.{ℕ, zero, suc, ◌+◌, ◌-◌, ◌*◌, ◌/◌, ◌≤◌, ◌<◌}
+use Prim.Native.Nat.{ℕ, ◌+◌, ◌*◌, ◌/◌, ◌≤◌, ◌<◌}
+use native.Mathlib.Numerals.{add-one}
 use native.Mathlib.Omega.{arith}
-use lib.Dec.{lit≤}
 use lib.ListN.{length, take, drop, get_or, length-append}
 use lib.Seq.{sets, length-take-le, drop-cons, get_or-take, get_or-drop}
 use borrow.Author.Tests.{lt-ltb, le-ltb}
@@ -28,50 +28,34 @@ use Rattle.image.specs.Sections.{sections, section_at, shape_of, bytes_of, image
 use Rattle.image.specs.Image.{section, setting_items, predicate_bytes, flag_items, image_of}
 use Rattle.image.specs.Writing.{write_reply, written_of, buffer_after}
 use Rattle.image.proofs.PredicateBytes.{length_bytes}
-use Rattle.image.proofs.SectionLaws.{here}
+use Rattle.image.proofs.SectionLaws.{here, past}
 
 -- ---- the length, section by section
 
-abbrev pub length_left : ℕ → ℕ → ℕ → ℕ
-length_left vl words i = bytes_of (λ s. s.lowest) (drop i (sections vl)) + 4 * words
+-- how many bytes the sections from i on have, without words
+abbrev pub left : ℕ → ℕ → ℕ
+left vl i = bytes_of (λ s. s.lowest) (drop i (sections vl))
 
-pub length_start : (vl words : ℕ) → 4 * words ≡ length_left vl words 6
-unfolding sections bytes_of
+pub length_start : (vl words : ℕ) → 4 * words + left vl 0 ≡ image_length vl words
+unfolding image_length
 length_start vl words = omega arith
 
-pub length_end : (vl words i n : ℕ) → n ≡ length_left vl words i → i ≤ 0 → n ≡ image_length vl words
-unfolding image_length
-length_end vl words i n e h = let z : i ≡ 0 = omega arith in e ∙ ap (length_left vl words) z
-
-pub length-turn : (vl words i n : ℕ) (shape : Shape) → n ≡ length_left vl words i → 0 < i → i ≤ 6 → shape ≡ shape_of (section_at (sections vl) (i - 1))
-    → 4 + shape.lowest * shape.item + n ≡ length_left vl words (i - 1)
+pub length_left : (vl i k : ℕ) (shape : Shape) → i < 6 → k ≡ i → shape ≡ shape_of (section_at (sections vl) k) → 4 + shape.lowest * shape.item + left vl (i + 1) ≡ left vl i
 unfolding bytes_of
-length-turn vl words i n shape e h l es =
-    let k : suc (i - 1) ≡ i = omega arith in
-    let d : drop (i - 1) (sections vl) ≡ section_at (sections vl) (i - 1) ∷ drop i (sections vl) = here vl (i - 1) (omega arith) ∙ ap (λ (j : ℕ). section_at (sections vl) (i - 1) ∷ drop j (sections vl)) k in
-    let b : bytes_of (λ s. s.lowest) (drop (i - 1) (sections vl)) ≡ 4 + (section_at (sections vl) (i - 1)).lowest * (section_at (sections vl) (i - 1)).item + bytes_of (λ s. s.lowest) (drop i (sections vl)) =
-    ap (bytes_of (λ s. s.lowest)) d in
-    let m : shape.lowest * shape.item ≡ (section_at (sections vl) (i - 1)).lowest * (section_at (sections vl) (i - 1)).item = ap (λ (x : Shape). x.lowest * x.item) es in
-    omega arith
+length_left vl i k shape l ek es = rw (es, ek, here vl i l, add-one)
+
+pub length_end : (vl words i n : ℕ) → n + left vl i ≡ image_length vl words → 6 ≤ i → n ≡ image_length vl words
+unfolding bytes_of
+length_end vl words i n e h = let z : left vl i ≡ 0 = ap (bytes_of (λ s. s.lowest)) (past vl i h) in omega (arith, e)
+
+pub length-most : (vl words : ℕ) → vl ≤ 2048 → words ≤ 4096 → image_length vl words ≤ 17207
+unfolding image_length sections bytes_of
+length-most vl words h l = omega arith
 
 -- The largest image has 17,207 bytes.
 pub largest_is : largest_image ≡ 17207
 unfolding image_length sections bytes_of
 largest_is = refl
-
--- the least that a section has, up to VL 2048
-pub least_most : (vl i : ℕ) (shape : Shape) → vl ≤ 2048 → shape ≡ shape_of (section_at (sections vl) i) → shape.lowest * shape.item ≤ 992
-unfolding sections
-least_most vl i shape h e = rw e (go i)
-  where
-    go : (i : ℕ) → (section_at (sections vl) i).lowest * (section_at (sections vl) i).item ≤ 992
-    go zero = lit≤ tt
-    go (suc zero) = lit≤ tt
-    go (suc (suc zero)) = omega arith
-    go (suc (suc (suc zero))) = omega arith
-    go (suc (suc (suc (suc zero)))) = lit≤ tt
-    go (suc (suc (suc (suc (suc zero))))) = omega arith
-    go (suc (suc (suc (suc (suc (suc i)))))) = omega arith
 
 -- ---- the sections as they are written
 

@@ -7,7 +7,7 @@ ghost use Rattle.registers.specs.Legal.{legal};
 ghost use Rattle.image.specs.Sections.{image_length};
 ghost use Rattle.image.specs.Image.{section, predicate_bytes, image_of};
 
-use super::sections;
+use super::sections::SECTIONS;
 use predicates::Predicate;
 use registers::State;
 
@@ -17,11 +17,9 @@ pub fn image_length(vl: u64, words: usize) -> usize
     ensures { result ≡ image_length vl words }
 {
     let mut length = 4 * words;
-    let mut i = sections::SECTIONS;
-    while 0 < i {
-        i -= 1;
-        let shape = sections::shape_of(i, vl);
-        length = 4 + shape.lowest * shape.item + length;
+    for section in SECTIONS {
+        let shape = section.shape(vl);
+        length += 4 + shape.lowest * shape.item;
     }
     length
 }
