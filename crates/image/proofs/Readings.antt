@@ -3,7 +3,7 @@ use Rattle.replies.specs.Reply.{Reply}
 use Rattle.std.specs.Prelude.{Ok, Err}
 use mathlib.Core.Bool.{Bool, true, false}
 use mathlib.Core.List.{List, [], ◌∷◌, ◌++◌}
-use mathlib.Core.Path.{◌≡◌, refl, sym, ap, ap₂, ◌∙◌, subst}
+use mathlib.Core.Path.{◌≡◌, refl, sym, ap, ◌∙◌, subst}
 use Prim.Native.Nat.{ℕ, zero, suc, ◌/◌, ◌≤◌, ◌<◌}
 use native.Mathlib.Decide.{dec_lt}
 use native.Mathlib.Omega.{arith}
@@ -87,9 +87,6 @@ module _ (room : ℕ) (image : List ℕ) (f : Reply) (e : f ≡ sections_reply (
     reply_done l = rw (← er, ← en, le-ltb _ _ l) (sym (next _ _ (sym e ∙ h)))
 
 -- ---- the state
-
-pub old_is : (image rest : List ℕ) (vl : ℕ) (t : Bool) → vl ≡ vl_of image → rest ≡ ffr_at image → t ≡ is_missing (section_at (sections vl) 3) rest → t ≡ is_old image
-old_is image rest vl t ev er e = e ∙ ap₂ (λ (v : ℕ) (r : List ℕ). is_missing (section_at (sections v) 3) r) ev er
 
 pub old_ffr : (image : List ℕ) → is_old image ≡ true → ffr_in image ≡ all_false
 unfolding ffr_in

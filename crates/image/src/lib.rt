@@ -18,6 +18,7 @@ pub mod sections;
 mod writer;
 
 pub use reader::blank;
+use sections::Section;
 
 // The most bytes that an image has: a constant, for the lengths of arrays.
 pub const LARGEST: usize = 17207;
@@ -42,7 +43,7 @@ pub fn read(image: &[u8], words: &mut [u32]) -> Result<Reading, Refusal>
     ensures words_after { words.new ≡ list_after image.now words.old }
 {
     reader::image_reply(image, words.len())?;
-    let rest = sections::start_of(image, sections::WORDS);
+    let rest = sections::start_of(image, Section::Words);
     let count = sections::count_of(rest);
     reader::fill(octets::after(rest, 4), count, words);
     let state = reader::state_of(image);

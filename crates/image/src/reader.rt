@@ -2,9 +2,11 @@
 ghost use Rattle.std.specs.Prelude.{[], ◌∷◌, ◌++◌, ◌≡◌, ◌≤◌, length};
 ghost use Rattle.std.proofs.lemmas.List.Edits.{sets};
 ghost use Rattle.octets.specs.Bytes.{value, parts};
+ghost use Rattle.image.specs.Sections.{place_of};
 ghost use Rattle.image.specs.Reading.{content_of, sections_of, start_of, image_reply, flags_in, predicate_of, ffr_in, state_of, blank as blank_state};
 
 use super::sections;
+use super::sections::Section;
 use predicates::{Flags, Predicate};
 use registers::State;
 use replies::{Refusal, Reply};
@@ -14,7 +16,7 @@ pub fn image_reply(image: &[u8], room: usize) -> Reply
     ensures { result ≡ image_reply room image.now }
 {
     sections::sections_reply(image)?;
-    if room < sections::count_of(sections::start_of(image, sections::WORDS)) {
+    if room < sections::count_of(sections::start_of(image, Section::Words)) {
         return Err(Refusal::BufferTooSmall);
     }
     Ok(())
@@ -34,8 +36,8 @@ pub fn blank() -> State
     State::new(128, 0, false, flags, [0; 31], [none; registers::PREDICATES])
 }
 
-fn content_of(image: &[u8], section: usize) -> &[u8]
-    ensures { result.now ≡ content_of (start_of (sections_of image.now) section image.now) }
+fn content_of(image: &[u8], section: Section) -> &[u8]
+    ensures { result.now ≡ content_of (start_of (sections_of image.now) (place_of section) image.now) }
 {
     octets::after(sections::start_of(image, section), 4)
 }
@@ -47,10 +49,10 @@ pub fn state_of(image: &[u8]) -> State
     let vl = sections::vector_length(image);
     let settings = octets::after(image, 4);
     let access = octets::byte(settings, 2) == 1;
-    let flags = flags_of(content_of(image, sections::FLAGS));
-    let x = x_of(content_of(image, sections::X));
+    let flags = flags_of(content_of(image, Section::Flags));
+    let x = x_of(content_of(image, Section::X));
     let size = (vl / 64) as usize;
-    let p = predicates_of(content_of(image, sections::P), size, ffr_of(image));
+    let p = predicates_of(content_of(image, Section::P), size, ffr_of(image));
     State::new(vl, octets::byte(settings, 1), access, flags, x, p)
 }
 
@@ -85,7 +87,7 @@ fn ffr_of(image: &[u8]) -> Predicate
         return Predicate { words: [0; 4] };
     }
     let size = (sections::vector_length(image) / 64) as usize;
-    predicate_of(octets::first(content_of(image, sections::FFR), size))
+    predicate_of(octets::first(content_of(image, Section::Ffr), size))
 }
 
 // P, and FFR after them.
