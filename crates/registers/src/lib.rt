@@ -146,6 +146,7 @@ impl State {
 }
 
 // The five vector lengths.
+#[tactic(auto, unfolding(crate::specs::Legal::is_length))]
 pub fn is_length(vl: u64) -> bool
     ensures { result ≡ is_length vl }
 {

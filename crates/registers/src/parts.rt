@@ -119,13 +119,15 @@ fn difference(q: Predicate, c: Counts, low: bool) -> u64
 
 // Whether the counts are those of the predicates that they stand beside; `low` goes by the first word of each alone. No test in the loop depends on a register, so that it is compiled to two registers
 // at a time.
+#[inline(never)]
 pub fn counts_agree(p: &[[u64; 4]], counts: &[[u16; 4]], low: bool) -> bool
     ensures { result ≡ not (some (λ i. not (same_counts (counts_in (tally_in low (get_or (predicates_of p.now) i all_false))) (get_or (counts_from counts.now) i no_counts)))
         (min (length (predicates_of p.now)) (length (counts_from counts.now)))) }
 {
     let mut bad = 0;
-    for (&words, &c) in p.iter().zip(counts) {
-        bad |= difference(Predicate { words }, counts_in(c), low);
+    // By index: over a `zip` fewer registers are done at a time.
+    for i in 0..p.len().min(counts.len()) {
+        bad |= difference(Predicate { words: p[i] }, counts_in(counts[i]), low);
     }
     bad == 0
 }

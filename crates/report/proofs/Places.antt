@@ -66,13 +66,13 @@ module _ (n w r : ℕ) (f : Flags) (x y : ℕ) (ex : x ≡ length (decimal n)) (
   pub word-length : x + y + 16 ≡ length (word_line n w r f)
   word-length = rw word_fields (simp (length-append, length_digits, flags_length) (omega arith))
 
-  pub word_put : (l a b c d : List ℕ) (at p q t : ℕ) → a ≡ sets l at f1 → p ≡ at + x + 1 → b ≡ sets a p f2 → q ≡ p + 8 + 1 → c ≡ sets b q f3 → t ≡ q + y + 1 → d ≡ sets c t f4
+  pub word_put : (l a b c d : List ℕ) (at p q t s : ℕ) → s ≡ r → a ≡ sets l at f1 → p ≡ at + x + 1 → b ≡ sets a p f2 → q ≡ p + 8 + 1 → c ≡ sets b q (digits 10 y s ++ (space ∷ [])) → t ≡ q + y + 1 → d ≡ sets c t f4
       → d ≡ sets l at (word_line n w r f)
-  word_put l a b c d at p q t ea ep eb eq ec et ed =
+  word_put l a b c d at p q t s es ea ep eb eq ec et ed =
       ed
       ∙ sym (ap (sets l at) word_fields ∙ more l a at p f1 (f2 ++ (f3 ++ f4)) ea (rw (field_length 10 x n space) (omega arith))
       ∙ more a b p q f2 (f3 ++ f4) eb (rw (field_length 16 8 w space) (omega arith))
-      ∙ more b c q t f3 f4 ec (rw (field_length 10 y r space) (omega arith)))
+      ∙ more b c q t f3 f4 (rw es at ec) (rw (field_length 10 y r space) (omega arith)))
 
 -- a text, a decimal number and a newline
 pub text-length : (text : List ℕ) (n x : ℕ) → x ≡ length (decimal n) → x + (length text + 1) ≡ length (text ++ (decimal n ++ (newline ∷ [])))

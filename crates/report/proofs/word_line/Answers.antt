@@ -18,7 +18,6 @@ returns c =
     let f1 = c.put_field-at.ensures in
     let f2 = c.put_field-at-2.ensures in
     let f3 = c.put_field-at-3.ensures in
-    let b3 = rw c.from-short.ensures at f3.buffer_after in
     let l = line_done _ a.at a.buffer.now _ _ (word-length _ a.word _ a.flags _ _ x y) c.saturating_sub.ensures _ _ (omega arith) c.if-saturating_sub-a.false (omega arith)
-    (word_put _ _ _ _ _ _ x y _ _ _ _ _ _ _ _ _ f1.buffer_after f1.value f2.buffer_after f2.value b3 f3.value c.put_flags.ensures.buffer_after) in
+    (word_put _ _ _ _ _ _ x y _ _ _ _ _ _ _ _ _ _ c.from-short.ensures f1.buffer_after f1.value f2.buffer_after f2.value f3.buffer_after f3.value c.put_flags.ensures.buffer_after) in
     record { value = l.0; buffer_after = l.1 }
