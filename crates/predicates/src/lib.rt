@@ -116,7 +116,7 @@ impl Predicate {
         self.zip(self, |p, _| !p)
     }
 
-    // Whether no bit is set.
+    // Whether no bit is set. Without a branch for each word.
     pub fn is_empty(self) -> bool
         ensures { result ≡ not (some (bit_at self) 256) }
     {
@@ -148,7 +148,7 @@ impl Predicate {
         256
     }
 
-    // One more than the highest bit set, or 0.
+    // One more than the highest bit set, or 0. The lowest word is not tested: the highest bit of most predicates is in it.
     pub fn after_highest(self) -> u64
         ensures { result ≡ after_last (bit_at self) 256 }
     {
