@@ -335,7 +335,7 @@ fn decode_ffr(w: u32) -> Result<Instruction, Refusal>
     Err(Refusal::ForeignWord)
 }
 
-// The instruction that a word is.
+// The instruction that a word is: the forms are tested in the order of the table, a few in each function.
 pub fn decode(word: u32) -> Result<Instruction, Refusal>
     ensures { result ≡ decode_of word }
 {

@@ -1,4 +1,4 @@
-// Instructions as rows of nine numbers: the form's, the fields from the highest bit down, zeros.
+// Instructions as rows of nine numbers, as C is given them: the form's, the fields from the highest bit down, zeros.
 ghost use Rattle.std.specs.Prelude.{◌≡◌};
 ghost use Rattle.bits.specs.Choice.{digit};
 ghost use Rattle.bits.specs.Size.{shift};
@@ -22,6 +22,7 @@ fn size_number(size: Size) -> u8
     size.shift() as u8
 }
 
+// A variant is no type, so the rows of the longest three are made from their fields.
 fn while_row(
     condition: Condition,
     unsigned: bool,
