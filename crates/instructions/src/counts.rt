@@ -19,7 +19,7 @@ pub fn inc_dec(decrement: bool, rdn: u64, n: u16) -> Computed
     Computed::number(rdn.wrapping_add(n))
 }
 
-// SQINCP, SQDECP, UQINCP and UQDECP, by the count that is kept.
+// SQINCP, SQDECP, UQINCP and UQDECP, by the count that is kept; the three flags are those of the instruction and of `saturate`.
 #[tactic(auto, unfolding(crate::specs::Counts::saturating_of))]
 pub fn saturating(decrement: bool, unsigned: bool, wide: bool, rdn: u64, n: u16) -> Computed
     ensures { result ≡ computed (saturating_of decrement unsigned wide rdn n) }

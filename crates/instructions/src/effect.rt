@@ -19,6 +19,7 @@ pub struct Computed {
 }
 
 impl Computed {
+    // Nothing given.
     fn nothing() -> Computed
         ensures { result ≡ record { pd = all_false; pd2 = all_false; rd = 0; nzcv = 0 } }
     {

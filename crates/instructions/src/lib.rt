@@ -24,7 +24,7 @@ use whiles::Comparison;
 pub use whiles::while_flags;
 use words::{Instruction, Target};
 
-// What an instruction gives.
+// What an instruction gives. WRFFR and RDFFR have an arm each: one for both is tested apart from the others, and slows them.
 #[tactic(auto, unfolding(crate::specs::Instructions::compute_of))]
 pub fn compute(i: Instruction, v: Values, vl: u64) -> Computed
     ensures { result ≡ computed (compute_of i v vl) }
@@ -61,7 +61,6 @@ pub fn compute(i: Instruction, v: Values, vl: u64) -> Computed
             ..
         } => logic::logic(operation, flags, v.pg, v.pn, v.pm, vl),
         Instruction::Setffr => ffr::setffr(vl),
-        // Two arms: one for both is tested apart from the others, which slows each.
         Instruction::Wrffr { .. } => Computed::predicate(v.pn),
         Instruction::Rdffr { .. } => Computed::predicate(v.pn),
         Instruction::RdffrPg { .. } => ffr::rdffr_pg(v.pg, v.pn),

@@ -7,7 +7,7 @@ use registers::FFR;
 use tally::Counts;
 use words::{Instruction, Target};
 
-// The number that stands for no register. It is past all of them: a read by it gives zero, and a write by it vanishes, with no test of its own, as with an Option.
+// The number that stands for no register. No Option: it is past all of them, so a read by it gives zero and a write by it vanishes, with no test of its own.
 const NONE: u8 = 255;
 
 // The numbers of registers. Those of numbers are whole words, so that none is packed beside another.
