@@ -91,23 +91,28 @@ pub fn refusal(state: State, request: Request, places: usize) -> Reply
 fn answer(ended: bool, count: u64, visited: usize, state: State) -> Walked
     ensures { result ≡ record { reply = pick ended (Ok tt) (Err BudgetSpent); count = count; visited = visited; state = state } }
 {
-    if ended {
-        return Walked {
-            reply: Ok(()),
-            count,
-            visited,
-            state,
-        };
-    }
     Walked {
-        reply: Err(Refusal::BudgetSpent),
+        reply: if ended {
+            Ok(())
+        } else {
+            Err(Refusal::BudgetSpent)
+        },
         count,
         visited,
         state,
     }
 }
 
+// PNEXT's flags where it finds no lane.
+const NONE_LEFT: Flags = Flags {
+    n: false,
+    z: true,
+    c: true,
+    v: false,
+};
+
 // The walk past its refusals, one instruction a turn. What it writes (Xn, Pd, Pk and the flags) is held apart, and put in the state at the end.
+// One loop over the phases, which counts instructions by hand: it is the hot path, and its count is what the budget bounds and the answer carries.
 fn plain(start: State, request: Request, list: &mut [u64], budget: u64) -> Walked
     requires { refusal_of request.size request.n request.m request.d request.k start (length list.old) ≡ Ok tt }
     ensures answer { result ≡ walked (plain_walk (size_of request.size) request.n request.m request.d request.k budget start list.old) }
@@ -153,12 +158,7 @@ fn plain(start: State, request: Request, list: &mut [u64], budget: u64) -> Walke
                 let e = lanes.next_active(size, next, elements);
                 if elements <= e {
                     cursor = Predicate::none();
-                    flags = Flags {
-                        n: false,
-                        z: true,
-                        c: true,
-                        v: false,
-                    };
+                    flags = NONE_LEFT;
                     phase = Phase::Incp;
                 } else {
                     let b = e << size.shift();

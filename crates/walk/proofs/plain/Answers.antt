@@ -66,20 +66,16 @@ loop-count-preserved c =
           (turn_incp g b goes left w.in-Incp.is c.live-live.ensures w.and-in-Incp.ensures w.count-x.ensures refl)
     ]
 
-pub returns-clause-answer : goal.returns-clause-answer
-returns-clause-answer c =
+pub returns : goal.returns
+returns c =
     let a = c.args in
-    let i = c.loop-count.invariant in
-    let g = within a.request.size a.request.n a.request.m a.request.d a.request.k a.start a.list.now (typed (goal.at.returns-clause-answer c).Start) c.size_of-size.ensures c.requires in
-    (answers g i a.request.size c.size_of-size.ensures
+    let r = a.request in
+    let h = c.loop-count in
+    let i = h.invariant in
+    let g = within r.size r.n r.m r.d r.k a.start a.list.now (typed (goal.at.returns c).Start) c.size_of-size.ensures c.requires in
+    let (answer, places) =
+    answers g i r.size c.size_of-size.ensures
     (elim c.loop-count-test.branch [ then-loop-count-test+else-not-ended w ↦ once_ended g i (ap not w.if-not-ended.false) | else-loop-count-test w ↦ once_spent g i w.loop-count-test.false ])
-    (c.with_x.ensures ∙ ap (λ (i : ℕ). with_x a.start i c.loop-count.x) c.from-n.ensures) (c.with_p.ensures ∙ ap (λ (i : ℕ). with_p c.with_x.result i c.loop-count.lanes) c.from-d.ensures) (c.with_p-state.ensures ∙ ap (λ (i : ℕ). with_p c.with_p.result i c.loop-count.cursor) c.from-k.ensures) c.with_flags.ensures c.answer.ensures).0
-
-pub returns-clause-places : goal.returns-clause-places
-returns-clause-places c =
-    let a = c.args in
-    let i = c.loop-count.invariant in
-    let g = within a.request.size a.request.n a.request.m a.request.d a.request.k a.start a.list.now (typed (goal.at.returns-clause-places c).Start) c.size_of-size.ensures c.requires in
-    (answers g i a.request.size c.size_of-size.ensures
-    (elim c.loop-count-test.branch [ then-loop-count-test+else-not-ended w ↦ once_ended g i (ap not w.if-not-ended.false) | else-loop-count-test w ↦ once_spent g i w.loop-count-test.false ])
-    (c.with_x.ensures ∙ ap (λ (i : ℕ). with_x a.start i c.loop-count.x) c.from-n.ensures) (c.with_p.ensures ∙ ap (λ (i : ℕ). with_p c.with_x.result i c.loop-count.lanes) c.from-d.ensures) (c.with_p-state.ensures ∙ ap (λ (i : ℕ). with_p c.with_p.result i c.loop-count.cursor) c.from-k.ensures) c.with_flags.ensures c.answer.ensures).1
+    (c.with_x.ensures ∙ ap (λ (j : ℕ). with_x a.start j h.x) c.from-n.ensures) (c.with_p.ensures ∙ ap (λ (j : ℕ). with_p c.with_x.result j h.lanes) c.from-d.ensures)
+    (c.with_p-state.ensures ∙ ap (λ (j : ℕ). with_p c.with_p.result j h.cursor) c.from-k.ensures) c.with_flags.ensures c.answer.ensures in
+    record { answer = answer; places = places }
