@@ -3,16 +3,19 @@ use Rattle.replies.specs.Reply.{Reply}
 use Rattle.std.specs.Prelude.{Ok, Err}
 use mathlib.Core.Bool.{Bool, true, false}
 use mathlib.Core.List.{List, [], ◌∷◌, ◌++◌}
-use mathlib.Core.Path.{◌≡◌, refl, sym, ap, ◌∙◌, subst}
-use Prim.Native.Nat.{ℕ, zero, suc, ◌/◌, ◌≤◌, ◌<◌}
+use mathlib.Core.Path.{◌≡◌, refl, sym, ap, ap₂, ◌∙◌, subst}
+use Prim.Native.Nat.{ℕ, zero, suc, ◌+◌, ◌*◌, ◌/◌, ◌≤◌, ◌<◌}
 use native.Mathlib.Decide.{dec_lt}
 use native.Mathlib.Omega.{arith}
 use lib.Dec.{ltb, eqb, lit<}
-use lib.ListN.{length, take, get_or, replicate}
-use lib.Seq.{sets, sets-eq, get_or-append_seam}
+use lib.ListN.{length, take, drop, get_or}
+use Rattle.std.proofs.lemmas.List.{ext_get_or}
+use Rattle.std.specs.Array.{IsFromFnResult, IsFromFnResultFrom}
+use denote.Param.Members.{Mut, Called}
+use lib.Seq.{take_all, take-suc, get_or-take, length-take-le, get_or-append_seam}
 use borrow.Author.Tests.{lt-ltb, le-ltb, ltb-false, ne_eqb}
-use Rattle.octets.specs.Bytes.{value, parts}
-use Rattle.octets.proofs.Bytes.{sets_over, length-parts}
+use Rattle.octets.specs.Bytes.{value, parts, over}
+use Rattle.octets.proofs.Bytes.{length-parts, parts_at}
 use Rattle.predicates.specs.declared.Flags.{Flags}
 use Rattle.predicates.specs.declared.Predicate.{Predicate}
 use Rattle.replies.specs.declared.Refusal.{Refusal}
@@ -104,9 +107,30 @@ module _ (image : List ℕ) (t : Bool) (p : Predicate) (e : t ≡ is_old image) 
   pub found_new : (content bs : List ℕ) (vl : ℕ) → t ≡ false → vl ≡ vl_of image → content ≡ content_of (ffr_at image) → bs ≡ take (vl / 64) content → p ≡ predicate_of bs → p ≡ ffr_in image
   found_new content bs vl h ev ec eb ep = rw (ep, eb, ec, ev) (sym (new-ffr image (sym e ∙ h)))
 
--- P stored in an array that is FFR in every place
-pub ffr_last : (f : Predicate) (ps : List Predicate) → length ps ≡ 16 → sets (replicate 17 f) 0 ps ≡ ps ++ (f ∷ [])
-ffr_last f ps e = sets-eq ps (replicate 17 f) 0 (omega arith) ∙ rw e
+-- what an array holds that was made by calls which change nothing
+module _ {F B : Type 0} (g : Mut F (ℕ × Unit {0}) B) (f : F) (h : ℕ → B) (pure : (i : ℕ) (y : B) (q : F) → Called g f (i, tt) y q → (q ≡ f) × (y ≡ h i)) where
+  filled_from : (ys : List B) (i n : ℕ) → IsFromFnResultFrom g f ys i n → (k : ℕ) (d : B) → i ≤ k → k < i + n → get_or ys k d ≡ h k
+  filled_from ys i zero m k d l u = absurd (omega arith)
+  filled_from ys i (suc n) m k d l u =
+      let p = pure i m.1 m.0 m.3 in
+      elim (dec_lt i k) [
+        | yes a ↦ filled_from ys (i + 1) n (subst (λ (q : F). IsFromFnResultFrom g q ys (i + 1) n) p.0 m.4) k d (omega arith) (omega arith)
+        | no a ↦ let e : k ≡ i = omega arith in rw e (m.2.1 d ∙ p.1)
+      ]
+
+  pub filled : {ys : List B} {n : ℕ} → IsFromFnResult g f ys n → (k : ℕ) (d : B) → k < n → get_or ys k d ≡ h k
+  filled {ys} {n} m k d l = filled_from ys 0 n m.each k d (omega arith) (omega arith)
+
+-- an array of parts, and one with an item more
+pub each_part : {A : Type 0} (f : List ℕ → A) (k n : ℕ) (bs : List ℕ) (xs : List A) (d : A) → length xs ≡ n → ((i : ℕ) → i < n → get_or xs i d ≡ f (take k (drop (i * k) bs))) → xs ≡ parts f k n bs
+each_part f k n bs xs d e each =
+    ext_get_or d xs (parts f k n bs) (e ∙ sym (length-parts f k n bs)) (λ i l. let h : i < n = rw e at l in each i h ∙ sym (parts_at f k n i bs d h))
+
+pub ffr_last : (size : ℕ) (bs : List ℕ) (ps : List Predicate) (f : Predicate) → length ps ≡ 17 → ((i : ℕ) → i < 16 → get_or ps i f ≡ predicate_of (take size (drop (i * size) bs))) → get_or ps 16 f ≡ f
+    → ps ≡ parts predicate_of size 16 bs ++ (f ∷ [])
+ffr_last size bs ps f e each last =
+    sym (take_all 17 ps (omega arith)) ∙ take-suc ps 16 f (omega arith)
+    ∙ ap₂ (λ (xs : List Predicate) (x : Predicate). xs ++ (x ∷ [])) (each_part predicate_of size 16 bs (take 16 ps) f (length-take-le 16 ps (omega arith)) (λ i l. get_or-take 16 ps i f l ∙ each i l)) last
 
 pub state_from : (image settings fc xc pc : List ℕ) (vl a level : ℕ) (flags : Flags) (x : List ℕ) (f : Predicate) (p : List Predicate) (s : State)
     → s ≡ made vl level (eqb a 1) flags x p
@@ -173,7 +197,6 @@ module _ (image list : List ℕ) (f : Reply) (e : f ≡ image_reply (length list
       unfolding read_of
       read_done s es = rw (es, ek, er) (sym (next _ _ (sym e ∙ h)))
 
-      pub list_done : (past content : List ℕ) → content ≡ content_of rest → past ≡ sets list 0 (parts value 4 k content) → past ≡ list_after image list
-      unfolding list_after words_of
-      list_done past content ec ea =
-          rw (← e, h, ea, ek, ec, er) (sets_over list (parts value 4 (count_of (words_at image)) (content_of (words_at image))) (rw length-parts found.fits))
+      pub list_done : (words content : List ℕ) → content ≡ content_of rest → words ≡ parts value 4 (length (take k list)) content → words ++ drop k list ≡ list_after image list
+      unfolding list_after words_of over
+      list_done words content ec ew = rw (ew, length-take-le k list fill-room, ← e, h, ec, ek, er, length-parts)

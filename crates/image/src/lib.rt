@@ -45,7 +45,7 @@ pub fn read(image: &[u8], words: &mut [u32]) -> Result<Reading, Refusal>
     reader::image_reply(image, words.len())?;
     let rest = sections::start_of(image, Section::Words);
     let count = sections::count_of(rest);
-    reader::fill(octets::after(rest, 4), count, words);
+    reader::fill(octets::after(rest, 4), &mut words[..count]);
     let state = reader::state_of(image);
     Ok(Reading { state, count })
 }
