@@ -51,6 +51,7 @@ pub fn read(image: &[u8], words: &mut [u32]) -> Result<Reading, Refusal>
 }
 
 // The image of a state and words at the front of the buffer, and how many bytes it has; a refusal leaves the buffer as it was.
+#[tactic(auto, unfolding(crate::specs::Writing::write_reply, crate::specs::Writing::written_of, crate::specs::Writing::buffer_after, crate::specs::Sections::or_else))]
 pub fn write(state: State, words: &[u32], image: &mut [u8]) -> Result<usize, Refusal>
     ensures value { result ≡ written_of state words.now (length image.old) }
     ensures image_after { image.new ≡ buffer_after state words.now image.old }

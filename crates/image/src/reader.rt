@@ -12,6 +12,7 @@ use replies::{Refusal, Reply};
 use std::array;
 
 // The sections' reply, and last that of the lent list's room.
+#[tactic(auto, unfolding(crate::specs::Reading::image_reply, crate::specs::Sections::or_else))]
 pub fn image_reply(image: &[u8], room: usize) -> Reply
     ensures { result ≡ image_reply room image.now }
 {
@@ -23,6 +24,7 @@ pub fn image_reply(image: &[u8], room: usize) -> Reply
 }
 
 // The state of a refused reading.
+#[tactic(auto, unfolding(crate::specs::Reading::blank))]
 pub fn blank() -> State
     ensures { result ≡ blank_state }
 {
@@ -43,6 +45,7 @@ fn content_of(image: &[u8], section: Section) -> &[u8]
 }
 
 // The state of an image that has no fault.
+#[tactic(auto, unfolding(crate::specs::Reading::state_of))]
 pub fn state_of(image: &[u8]) -> State
     ensures { result ≡ state_of image.now }
 {
@@ -56,6 +59,7 @@ pub fn state_of(image: &[u8]) -> State
     State::new(vl, octets::byte(settings, 1), access, flags, x, p)
 }
 
+#[tactic(auto, unfolding(crate::specs::Reading::flags_in))]
 fn flags_of(content: &[u8]) -> Flags
     ensures { result ≡ flags_in content.now }
 {
@@ -75,6 +79,7 @@ fn x_of(content: &[u8]) -> [u64; 31]
 }
 
 // FFR, which an old image does not have.
+#[tactic(auto, unfolding(crate::specs::Reading::ffr_in))]
 fn ffr_of(image: &[u8]) -> Predicate
     ensures { result ≡ ffr_in image.now }
 {
