@@ -8,7 +8,7 @@ use native.Mathlib.Nat.{suc-add, mul_assoc, pow-suc, div-one, div-div-eq-div-mul
 use native.Mathlib.Omega.{arith}
 use lib.Arith.{digits_div, digits_mod}
 use lib.Dec.{lit<}
-use lib.ListN.{length, take, drop, length-drop}
+use lib.ListN.{length, take, drop, get_or, length-drop}
 use lib.Pow.{pow-add, mod-pow-add, shr-shr}
 use lib.Seq.{sets, sets-eq, length-take-le, drop-drop}
 use borrow.Rule.Slice.PartMut.{put_mid, same_len_mid}
@@ -216,9 +216,13 @@ predicate_within k bs h b =
     ])
 
 -- four words read are the predicate
-pub from_words : (bs : List ℕ) (a b c d : ℕ) → AreBytes bs → a ≡ number_at 0 8 bs → b ≡ number_at 8 8 bs → c ≡ number_at 16 8 bs → d ≡ number_at 24 8 bs
-    → ◌≡◌ {A = Predicate} (record { words = a ∷ b ∷ c ∷ d ∷ [] }) (predicate_of bs)
+pub from_words : (bs ws : List ℕ) → AreBytes bs → length ws ≡ 4 → ((i : ℕ) → i < 4 → get_or ws i 0 ≡ number_at (i * 8) 8 bs) → ◌≡◌ {A = Predicate} (record { words = ws }) (predicate_of bs)
 unfolding predicate_of
-from_words bs a b c d h ea eb ec ed =
+from_words bs (a ∷ b ∷ c ∷ d ∷ []) h e each =
     let w : (at : ℕ) → value (take 8 (drop at bs)) ≡ number (test_bit (value bs)) (8 * at) 64 = λ at. word_of bs at h (bytes_drop at bs h) in
-    four_words (test_bit (value bs)) a b c d (ea ∙ w 0) (eb ∙ w 8) (ec ∙ w 16) (ed ∙ w 24)
+    four_words (test_bit (value bs)) a b c d (each 0 (lit< tt) ∙ w 0) (each 1 (lit< tt) ∙ w 8) (each 2 (lit< tt) ∙ w 16) (each 3 (lit< tt) ∙ w 24)
+from_words bs [] h e each = absurd (omega arith)
+from_words bs (a ∷ []) h e each = absurd (omega arith)
+from_words bs (a ∷ b ∷ []) h e each = absurd (omega arith)
+from_words bs (a ∷ b ∷ c ∷ []) h e each = absurd (omega arith)
+from_words bs (a ∷ b ∷ c ∷ d ∷ x ∷ ws) h e each = absurd (omega arith)

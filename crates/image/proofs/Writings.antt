@@ -146,10 +146,6 @@ module _ (s : State) (ok : Sized s) (ws : List ℕ) where
 
 -- ---- the replies, in their order
 
-chosen : (b : Bool) (x y : Reply) → not (not b) ≡ true → x ≡ pick b x y
-chosen true x y h = refl
-chosen false x y h = never h refl
-
 skipped : (b : Bool) (x y : Reply) → not b ≡ true → pick b x y ≡ y
 skipped true x y h = never h refl
 skipped false x y h = refl
@@ -159,14 +155,6 @@ lawful s true e h = sym e
 lawful s false e h = never refl h
 
 module _ (s : State) (ws : List ℕ) (room : ℕ) where
-  pub reply_illegal : (t : Bool) → t ≡ legal s → not t ≡ true → Err R.IllegalState ≡ write_reply s ws room
-  unfolding write_reply
-  reply_illegal t e h = chosen (illegal s) (Err R.IllegalState) _ (ap not (sym e) ∙ h)
-
-  pub reply_many : legal s ≡ true → 4096 < length ws → Err R.NotAllowed ≡ write_reply s ws room
-  unfolding write_reply
-  reply_many h l = sym (skipped (illegal s) (Err R.IllegalState) _ h ∙ rw (lt-ltb _ _ l))
-
   pub reply_small : legal s ≡ true → length ws ≤ 4096 → room < length (image_of s ws) → Err R.BufferTooSmall ≡ write_reply s ws room
   unfolding write_reply
   reply_small h l r = sym (skipped (illegal s) (Err R.IllegalState) _ h ∙ rw (le-ltb _ _ l, lt-ltb _ _ r))
