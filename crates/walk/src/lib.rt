@@ -3,13 +3,17 @@
 // budget instructions and the positions written by then. Positions are written from the list's first place on; every other place stays.
 #![tactic(auto)]
 
-ghost use Rattle.std.specs.Prelude.{◌≡◌, length, Ok, Err};
+ghost use Rattle.std.specs.Prelude.{◌≡◌, ◌<◌, ◌+◌, ◌^◌, ◌==◌, not, false, length, Ok, Err};
+ghost use Rattle.bits.specs.Search.{first_from, after_last};
+ghost use Rattle.bits.specs.Size.{shift};
+ghost use Rattle.predicates.specs.Predicate.{bit_at, touched};
 ghost use Rattle.bits.specs.Choice.{pick};
 ghost use Rattle.replies.specs.declared.Refusal.TheVariants.{BudgetSpent};
 ghost use Rattle.words.specs.Words.{size_of};
 ghost use Rattle.walk.specs.Walk.{plain_walk, walked, bad_registers, refusal_of, whole_of, walk_of};
 ghost use Rattle.walk.specs.Demand.{Demand3};
 
+use bits::Size;
 use predicates::{Flags, Predicate};
 use registers::State;
 use replies::{Refusal, Reply};
@@ -103,6 +107,40 @@ fn answer(ended: bool, count: u64, visited: usize, state: State) -> Walked
     }
 }
 
+// What PNEXT needs of a round: the lowest bit of its lanes and the end of their bits, for the flags, and the element from which it searches.
+#[derive(Clone, Copy)]
+struct Round {
+    low: u64,
+    end: u64,
+    next: u64,
+}
+
+impl Round {
+    // Of lanes and a cursor below the vector's end.
+    fn of(lanes: Predicate, cursor: Predicate, size: Size) -> Round
+        ensures { result ≡ record { low = first_from (bit_at lanes) 0 256; end = after_last (bit_at lanes) 256; next = after_last (touched (shift size) cursor) 256 } }
+    {
+        Round {
+            low: lanes.lowest(),
+            end: lanes.after_highest(),
+            next: cursor.end_element(size),
+        }
+    }
+
+    // PNEXT's flags at a lane of this lowest bit.
+    fn flags_at(self, bit: u64) -> Flags
+        requires { bit + 1 < 2 ^ 64 }
+        ensures { result ≡ record { n = self.low == bit; z = false; c = not (self.end == bit + 1); v = false } }
+    {
+        Flags {
+            n: self.low == bit,
+            z: false,
+            c: self.end != bit + 1,
+            v: false,
+        }
+    }
+}
+
 // PNEXT's flags where it finds no lane.
 const NONE_LEFT: Flags = Flags {
     n: false,
@@ -129,10 +167,11 @@ fn plain(start: State, request: Request, list: &mut [u64], budget: u64) -> Walke
     let mut lanes = start.read_p(d);
     let mut cursor = start.read_p(k);
     let mut flags = start.flags;
-    // The lowest bit of a round's lanes and the end of their bits, for PNEXT's flags; and the element from which PNEXT searches.
-    let mut low: u64 = 0;
-    let mut end: u64 = 0;
-    let mut next: u64 = 0;
+    let mut round = Round {
+        low: 0,
+        end: 0,
+        next: 0,
+    };
     let mut phase = Phase::Pfalse;
     let mut ended = false;
     let mut visited: usize = 0;
@@ -148,30 +187,21 @@ fn plain(start: State, request: Request, list: &mut [u64], budget: u64) -> Walke
                 lanes = Predicate::first(size, held);
                 flags = Flags::of(instructions::while_flags(true, held, elements));
                 ended = held == 0;
-                let mask = lanes.and(live);
-                low = mask.lowest();
-                end = mask.after_highest();
-                next = cursor.and(live).end_element(size);
+                round = Round::of(lanes.and(live), cursor.and(live), size);
                 phase = Phase::Pnext;
             }
             Phase::Pnext => {
-                let e = lanes.next_active(size, next, elements);
+                let e = lanes.next_active(size, round.next, elements);
                 if elements <= e {
                     cursor = Predicate::none();
                     flags = NONE_LEFT;
                     phase = Phase::Incp;
                 } else {
-                    let b = e << size.shift();
                     cursor = Predicate::only_element(size, e);
-                    flags = Flags {
-                        n: low == b,
-                        z: false,
-                        c: end != b + 1,
-                        v: false,
-                    };
+                    flags = round.flags_at(e << size.shift());
                     list[visited] = x.wrapping_add(e);
                     visited += 1;
-                    next = e + 1;
+                    round.next = e + 1;
                 }
             }
             Phase::Incp => {
