@@ -110,7 +110,7 @@ fn predicate_of(bs: &[u8]) -> Predicate
     }
 }
 
-// Puts a word in each place of the list.
+// Puts a word in each place of the list. By index: bytes past the end read as 0.
 pub fn fill(content: &[u8], list: &mut [u32])
     requires { length list.old ≤ 4096 }
     ensures { list.new ≡ parts value 4 (length list.old) content.now }

@@ -97,7 +97,7 @@ impl Section {
         self.shape(vl).optional & (count_of(rest) == 4)
     }
 
-    // What follows it.
+    // What follows it. The bound on VL, which an image names in one byte, is asked here and by `reply` alone.
     fn after(self, vl: u64, rest: &[u8]) -> &[u8]
         requires { vl ≤ 32640 }
         ensures { result.now ≡ after_section (section_at (sections vl) (place_of self)) rest.now }

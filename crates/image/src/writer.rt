@@ -51,6 +51,7 @@ impl Item for Predicate {
     ghost bytes = { predicate_bytes };
 
     fn put(self, slice: &mut [u8]) {
+        // By index: the words and the parts of the slice go in step.
         let n = slice.len();
         for (j, word) in self.words.iter().enumerate() {
             let start = (j * 8).min(n);
@@ -98,7 +99,7 @@ pub fn put_image(image: &mut [u8], state: State, words: &[u32])
     put_section(image, words_at, 4, words);
 }
 
-// A section: how many items it has, then `item` bytes of each.
+// A section: how many items it has, then `item` bytes of each. The image goes with a place: handing out what is left of it needs a clause on its lender.
 fn put_section<T: Item>(image: &mut [u8], at: usize, item: usize, items: &[T]) -> usize
     requires { (item ≤ T.most) × (at + (4 + length items.now * item) ≤ length image.old) }
     ensures value { result ≡ at + (4 + length items.now * item) }
