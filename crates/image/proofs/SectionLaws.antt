@@ -6,7 +6,7 @@ use mathlib.Core.Bool.{Bool, true, false, not, ◌||◌}
 use mathlib.Core.List.{List, [], ◌∷◌}
 use mathlib.Core.Path.{◌≡◌, refl, sym, ap, ap₂, ◌∙◌}
 use Prim.Native.Nat.{ℕ, zero, suc, ◌+◌, ◌*◌, ◌≤◌, ◌<◌}
-use native.Mathlib.Nat.{le_trans, mul-le-mul, mul-le-mul_right}
+use native.Mathlib.Nat.{le_trans, mul-le-mul, mul-le-mul_right, mul-zero}
 use native.Mathlib.Numerals.{add-one}
 use native.Mathlib.Omega.{arith}
 use lib.Dec.{ltb, lit≤}
@@ -40,6 +40,20 @@ place_at (suc (suc (suc zero))) d h = refl
 place_at (suc (suc (suc (suc zero)))) d h = refl
 place_at (suc (suc (suc (suc (suc zero))))) d h = refl
 place_at (suc (suc (suc (suc (suc (suc i)))))) d h = absurd (omega arith)
+
+-- past the last section an empty one
+pub past_last : (vl i : ℕ) → false ≡ ltb i 6 → section_at (sections vl) i ≡ section_at [] i
+unfolding sections
+past_last vl zero h = never refl (sym h)
+past_last vl (suc zero) h = never refl (sym h)
+past_last vl (suc (suc zero)) h = never refl (sym h)
+past_last vl (suc (suc (suc zero))) h = never refl (sym h)
+past_last vl (suc (suc (suc (suc zero)))) h = never refl (sym h)
+past_last vl (suc (suc (suc (suc (suc zero))))) h = never refl (sym h)
+past_last vl (suc (suc (suc (suc (suc (suc i)))))) h = refl
+
+pub past-after : (vl i : ℕ) (rest : List ℕ) → false ≡ ltb i 6 → drop 4 rest ≡ after (section_at (sections vl) i) rest
+past-after vl i rest h = rw (past_last vl i h, mul-zero) refl
 
 -- an item's bytes, whatever byte an image has for VL
 pub item_most : (vl i : ℕ) → vl ≤ 32640 → (section_at (sections vl) i).item ≤ 510

@@ -43,7 +43,7 @@ pub fn read(image: &[u8], words: &mut [u32]) -> Result<Reading, Refusal>
     ensures words_after { words.new ≡ list_after image.now words.old }
 {
     reader::image_reply(image, words.len())?;
-    let rest = sections::start_of(image, Section::Words);
+    let rest = sections::start_of(image, Section::Words as usize);
     let count = sections::count_of(rest);
     reader::fill(octets::after(rest, 4), &mut words[..count]);
     let state = reader::state_of(image);

@@ -17,7 +17,7 @@ pub fn image_reply(image: &[u8], room: usize) -> Reply
     ensures { result ≡ image_reply room image.now }
 {
     sections::sections_reply(image)?;
-    if room < sections::count_of(sections::start_of(image, Section::Words)) {
+    if room < sections::count_of(sections::start_of(image, Section::Words as usize)) {
         return Err(Refusal::BufferTooSmall);
     }
     Ok(())
@@ -41,7 +41,7 @@ pub fn blank() -> State
 fn content_of(image: &[u8], section: Section) -> &[u8]
     ensures { result.now ≡ content_of (start_of (sections_of image.now) (place_of section) image.now) }
 {
-    octets::after(sections::start_of(image, section), 4)
+    octets::after(sections::start_of(image, section as usize), 4)
 }
 
 // The state of an image that has no fault.

@@ -49,14 +49,6 @@ impl Shape {
 }
 
 impl Section {
-    // How many sections stand before it.
-    fn place(self) -> usize
-        ensures value { result ≡ place_of self }
-        ensures upper_bound { result < 6 }
-    {
-        self as usize
-    }
-
     #[tactic(auto, unfolding(crate::specs::Sections::sections))]
     pub fn shape(self, vl: u64) -> Shape
         ensures { result ≡ shape_of (section_at (sections vl) (place_of self)) }
@@ -175,17 +167,48 @@ pub fn count_of(rest: &[u8]) -> usize
 pub fn is_old(image: &[u8]) -> bool
     ensures { result ≡ is_old image.now }
 {
-    Section::Ffr.is_missing(vector_length(image), start_of(image, Section::Ffr))
+    Section::Ffr.is_missing(vector_length(image), start_of(image, Section::Ffr as usize))
 }
 
-// What is left of an image where a section begins.
-pub fn start_of(image: &[u8], section: Section) -> &[u8]
-    ensures { result.now ≡ start_of (sections_of image.now) (place_of section) image.now }
+// The shape of a section by its number; past the last an empty one.
+pub fn shape_of(section: usize, vl: u64) -> Shape
+    ensures { result ≡ shape_of (section_at (sections vl) section) }
+{
+    match SECTIONS.get(section) {
+        Some(named) => named.shape(vl),
+        None => Shape::fixed(0, 0),
+    }
+}
+
+// Whether a byte is allowed at a place of the content of a section by its number.
+pub fn is_allowed(section: usize, vl: u64, place: usize, b: u8) -> bool
+    ensures { result ≡ (section_at (sections vl) section).allowed place b }
+{
+    match SECTIONS.get(section) {
+        Some(named) => named.is_allowed(vl, place, b),
+        None => true,
+    }
+}
+
+// What follows a section by its number.
+fn after_section(section: usize, vl: u64, rest: &[u8]) -> &[u8]
+    requires { vl ≤ 32640 }
+    ensures { result.now ≡ after_section (section_at (sections vl) section) rest.now }
+{
+    match SECTIONS.get(section) {
+        Some(named) => named.after(vl, rest),
+        None => octets::after(rest, 4),
+    }
+}
+
+// What is left of an image where a section begins, by its number.
+pub fn start_of(image: &[u8], section: usize) -> &[u8]
+    ensures { result.now ≡ start_of (sections_of image.now) section image.now }
 {
     let vl = vector_length(image);
     let mut rest = image;
-    for passed in &SECTIONS[..section.place()] {
-        rest = passed.after(vl, rest);
+    for i in 0..section {
+        rest = after_section(i, vl, rest);
     }
     rest
 }

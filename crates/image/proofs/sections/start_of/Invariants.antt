@@ -3,5 +3,5 @@ use mathlib.Core.Path.{◌≡◌}
 use Rattle.image.specs.Sections.{sections, start_of}
 use Rattle.image.proofs.sections.start_of.Given as goal
 
-abbrev pub invariant-loop-passed : goal.invariant-loop-passed
-invariant-loop-passed l = l.rest ≡ start_of (sections l.vl) l.passed-index l.image
+abbrev pub invariant-loop-i : goal.invariant-loop-i
+invariant-loop-i l = l.rest ≡ start_of (sections l.vl) l.i l.image

@@ -1,12 +1,16 @@
 -- `put_section` meets its contract: what is left to write is stored over what was. Assumes nothing.
 use mathlib.Core.Path.{refl, sym, ◌∙◌}
+use Prim.Native.Nat.{ℕ, ◌+◌, ◌*◌, ◌<◌, ◌≤◌}
+use native.Mathlib.Nat.{suc-mul, mul-le-mul_right}
 use native.Mathlib.Omega.{arith}
 use lib.ListN.{length}
 use Rattle.octets.specs.Bytes.{le}
-use Rattle.octets.proofs.Bytes.{within}
 use Rattle.image.proofs.PredicateBytes.{put_part}
 use Rattle.image.proofs.Writings.{section_start, item_turn, item_end}
 use Rattle.image.proofs.writer.put_section.Goals as goal
+
+within : (i n k : ℕ) → i < n → i * k + k ≤ n * k
+within i n k h = rw suc-mul at (mul-le-mul_right k h)
 
 pub loop-x-preserved : goal.loop-x-preserved
 loop-x-preserved g c =
