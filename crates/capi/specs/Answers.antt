@@ -1,6 +1,7 @@
 -- The answers as C has them: each reply by its number, all else as it is.
-use Rattle.replies.specs.Reply.{number_of}
-use Rattle.std.specs.Prelude.{ℕ, Bool, List, ◌≡◌}
+use Rattle.replies.specs.declared.Refusal.{Refusal}
+use Rattle.replies.specs.Reply.{refusal_number, number_of}
+use Rattle.std.specs.Prelude.{ℕ, Bool, List, Result, Ok, Err, ◌≡◌}
 use Rattle.registers.specs.declared.State.{State}
 use Rattle.registers.specs.Parts.{state_at}
 use Rattle.machine.specs.Step.{step_of, run_of}
@@ -8,7 +9,7 @@ use Rattle.walk.specs.declared.Walked as Walk
 use Rattle.shared.specs.declared.Stepped as Shared
 use Rattle.shared.specs.declared.Walked as Shared'
 use Rattle.image.specs.declared.Reading as Image
-use Rattle.image.specs.declared.Written as Image'
+use Rattle.image.specs.Reading.{blank}
 use Rattle.capi.specs.declared.Ran.{Ran}
 use Rattle.capi.specs.declared.Walked.{Walked}
 use Rattle.capi.specs.declared.SharedStepped.{SharedStepped}
@@ -44,8 +45,11 @@ shared_stepped_as r = record { reply = number_of r.reply; shared = r.shared }
 abbrev pub shared_walked_as : Shared'.Walked → SharedWalked
 shared_walked_as r = record { reply = number_of r.reply; count = r.count; visited = r.visited; shared = r.shared }
 
-abbrev pub read_as : Image.Reading → Reading
-read_as r = record { reply = number_of r.reply; count = r.count; state = r.state }
+-- beside a refusal: no word, no byte, and a blank state
+abbrev pub read_as : Result Image.Reading Refusal → Reading
+read_as (Ok r) = record { reply = 0; count = r.count; state = r.state }
+read_as (Err e) = record { reply = refusal_number e; count = 0; state = blank }
 
-abbrev pub written_as : Image'.Written → Written
-written_as r = record { reply = number_of r.reply; length = r.length }
+abbrev pub written_as : Result ℕ Refusal → Written
+written_as (Ok n) = record { reply = 0; length = n }
+written_as (Err e) = record { reply = refusal_number e; length = 0 }

@@ -1,8 +1,7 @@
 // The library as C calls it: include/plokamyr.h declares these functions, and says of each what it answers, in which order it refuses and what it leaves. Replies are numbers.
 #![tactic(auto)]
 
-ghost use Rattle.std.specs.Prelude.{map, ◌≡◌, length, replicate};
-ghost use Rattle.replies.specs.declared.Reply.TheVariants.{Done};
+ghost use Rattle.std.specs.Prelude.{map, ◌≡◌, length, replicate, Ok};
 ghost use Rattle.replies.specs.Reply.{number_of};
 ghost use Rattle.registers.specs.State.{counted};
 ghost use Rattle.words.specs.Words.{size_of};
@@ -20,8 +19,9 @@ ghost use Rattle.words.specs.Rows.{decoded_reply, decoded_row, encoded_reply, en
 
 use registers::parts::Settings;
 use registers::{COUNTED, PREDICATES, State};
+use replies::Reply;
 use shared::{Kernel, Shared};
-use words::{Decoded, Encoded};
+use walk::Request;
 
 #[repr(C)]
 #[derive(Clone, Copy)]
@@ -71,6 +71,13 @@ pub struct Written {
     pub length: usize,
 }
 
+// A reply's number, as wide as C has it.
+fn number(reply: Reply) -> u32
+    ensures { result ≡ number_of reply }
+{
+    u32::from(replies::number(reply))
+}
+
 // The number of the layout: of the structs above and of what each function here is handed. Its name bears it, so that a host compiled for another layout does not link.
 #[unsafe(no_mangle)]
 pub extern "C" fn plokamyr_layout_3() -> u32
@@ -95,8 +102,7 @@ pub extern "C" fn plokamyr_step_parts(
         (state_in vl level access flags.new x.new p.new counts.new) }
 {
     let settings = Settings { vl, level, access };
-    let reply = machine::engine::step(settings, flags, x, p, counts, word);
-    reply.number() as u32
+    number(machine::engine::step(settings, flags, x, p, counts, word))
 }
 
 // The words executed one after the other, until one is refused, on a state's parts where they stand.
@@ -116,11 +122,9 @@ pub extern "C" fn plokamyr_run_parts(
 {
     let settings = Settings { vl, level, access };
     let went = machine::engine::run(settings, flags, x, p, counts, words);
-    let reply = went.reply;
-    let refused = went.refused;
     Ran {
-        reply: reply.number() as u32,
-        refused: refused.number() as u32,
+        reply: number(went.reply),
+        refused: number(went.refused),
         done: went.done,
     }
 }
@@ -138,8 +142,7 @@ pub extern "C" fn plokamyr_counted(state: State) -> State
 pub extern "C" fn plokamyr_step_lent(state: &mut State, word: u32) -> u32
     ensures { (result ≡ number_of (step_of state.old word).reply) × (state.new ≡ (step_of state.old word).state) }
 {
-    let reply = lent::step(state, word);
-    reply.number() as u32
+    number(lent::step(state, word))
 }
 
 // The walk from Xn to Xm with lanes Pd and cursor Pk: the positions visited go to the lent list.
@@ -156,16 +159,15 @@ pub extern "C" fn plokamyr_walk(
 ) -> Walked
     ensures value { result ≡ walked_as (walk_of size n m d k budget state list.old) }
     ensures list_after { list.new ≡ (whole_of size n m d k budget state list.old).list }
-    ensures demand3 { refusal_of size n m d k state (length list.old) ≡ Done → Demand3 (size_of size) n m d k budget state list.old list.new (walk_of size n m d k budget state list.old) }
+    ensures demand3 { refusal_of size n m d k state (length list.old) ≡ Ok tt → Demand3 (size_of size) n m d k budget state list.old list.new (walk_of size n m d k budget state list.old) }
 {
-    let walked = walk::walk(state, size, n, m, d, k, list, budget);
-    let reply = walked.reply;
-    let state = walked.state;
+    let request = Request { size, n, m, d, k };
+    let walked = walk::walk(state, request, list, budget);
     Walked {
-        reply: reply.number() as u32,
+        reply: number(walked.reply),
         count: walked.count,
         visited: walked.visited,
-        state,
+        state: walked.state,
     }
 }
 
@@ -176,8 +178,7 @@ pub extern "C" fn plokamyr_fold(title: &mut [u16], vl: u64) -> u32
     ensures title_after { title.new ≡ fold_of vl (replicate longest 0) title.old }
     ensures table { result ≡ 0 → title.new ≡ map fold_unit title.old }
 {
-    let folded = fold::fold(title, vl);
-    folded.number() as u32
+    number(fold::fold(title, vl))
 }
 
 // One instruction word, executed for one of two kernels on a shared state.
@@ -186,11 +187,9 @@ pub extern "C" fn plokamyr_shared_step(shared: Shared, second: bool, word: u32) 
     ensures { result ≡ shared_stepped_as (Kernels.step_of (Kernels.kernel_of second) shared word) }
 {
     let stepped = shared.step(Kernel::of(second), word);
-    let reply = stepped.reply;
-    let shared = stepped.shared;
     SharedStepped {
-        reply: reply.number() as u32,
-        shared,
+        reply: number(stepped.reply),
+        shared: stepped.shared,
     }
 }
 
@@ -209,17 +208,16 @@ pub extern "C" fn plokamyr_shared_walk(
 ) -> SharedWalked
     ensures value { result ≡ shared_walked_as (Kernels.walk_of (Kernels.kernel_of second) size n m d k budget shared list.old) }
     ensures list_after { list.new ≡ Kernels.list_of (Kernels.kernel_of second) size n m d k budget shared list.old }
-    ensures demand3 { Kernels.refusal_of (Kernels.kernel_of second) size n m d k shared (length list.old) ≡ Done → Demand3 (size_of size) n m d k budget (Kernels.state_for (Kernels.kernel_of second) shared) list.old list.new (Kernels.walked_by (Kernels.kernel_of second) (Kernels.walk_of (Kernels.kernel_of second) size n m d k budget shared list.old)) }
+    ensures demand3 { Kernels.refusal_of (Kernels.kernel_of second) size n m d k shared (length list.old) ≡ Ok tt → Demand3 (size_of size) n m d k budget (Kernels.state_for (Kernels.kernel_of second) shared) list.old list.new (Kernels.walked_by (Kernels.kernel_of second) (Kernels.walk_of (Kernels.kernel_of second) size n m d k budget shared list.old)) }
 {
     let kernel = Kernel::of(second);
-    let answer = shared.walk(kernel, size, n, m, d, k, list, budget);
-    let reply = answer.reply;
-    let shared = answer.shared;
+    let request = Request { size, n, m, d, k };
+    let answer = shared.walk(kernel, request, list, budget);
     SharedWalked {
-        reply: reply.number() as u32,
+        reply: number(answer.reply),
         count: answer.count,
         visited: answer.visited,
-        shared,
+        shared: answer.shared,
     }
 }
 
@@ -229,13 +227,17 @@ pub extern "C" fn plokamyr_read(image: &[u8], words: &mut [u32]) -> Reading
     ensures value { result ≡ read_as (read_of (length words.old) image.now) }
     ensures words_after { words.new ≡ list_after image.now words.old }
 {
-    let reading = image::read(image, words);
-    let reply = reading.reply;
-    let state = reading.state;
-    Reading {
-        reply: reply.number() as u32,
-        count: reading.count,
-        state,
+    match image::read(image, words) {
+        Ok(reading) => Reading {
+            reply: 0,
+            count: reading.count,
+            state: reading.state,
+        },
+        Err(refusal) => Reading {
+            reply: u32::from(refusal.number()),
+            count: 0,
+            state: image::blank(),
+        },
     }
 }
 
@@ -245,11 +247,12 @@ pub extern "C" fn plokamyr_write(state: State, words: &[u32], image: &mut [u8]) 
     ensures value { result ≡ written_as (written_of state words.now (length image.old)) }
     ensures image_after { image.new ≡ buffer_after state words.now image.old }
 {
-    let written = image::write(state, words, image);
-    let reply = written.reply;
-    Written {
-        reply: reply.number() as u32,
-        length: written.length,
+    match image::write(state, words, image) {
+        Ok(length) => Written { reply: 0, length },
+        Err(refusal) => Written {
+            reply: u32::from(refusal.number()),
+            length: 0,
+        },
     }
 }
 
@@ -269,13 +272,12 @@ pub extern "C" fn plokamyr_decode(word: u32, row: &mut [u8; 9]) -> u32
     ensures value { result ≡ decoded_reply word }
     ensures row_after { row.new ≡ decoded_row word row.old }
 {
-    let decoded = words::decode(word);
-    match decoded {
-        Decoded::Ours(i) => {
+    match words::decode(word) {
+        Ok(i) => {
             *row = words::row_of(i);
             0
         }
-        Decoded::Refused(reply) => reply.number() as u32,
+        Err(refusal) => u32::from(refusal.number()),
     }
 }
 
@@ -285,12 +287,11 @@ pub extern "C" fn plokamyr_encode(row: &[u8; 9], word: &mut u32) -> u32
     ensures value { result ≡ encoded_reply row.now }
     ensures word_after { word.new ≡ encoded_word row.now word.old }
 {
-    let encoded = words::word_of(*row);
-    match encoded {
-        Encoded::Word(w) => {
+    match words::word_of(*row) {
+        Ok(w) => {
             *word = w;
             0
         }
-        Encoded::Refused(reply) => reply.number() as u32,
+        Err(refusal) => u32::from(refusal.number()),
     }
 }

@@ -118,7 +118,7 @@ is_old_lem = refl
 
 -- ---- the round trips
 
-pub read_back : read_of 3 image ≡ record { reply = Ok tt; state = state; count = 3 }
+pub read_back : read_of 3 image ≡ Ok (record { state = state; count = 3 })
 unfolding all_below
 read_back = rw image_bytes at (read-written state words held lawful (lit≤ tt) (below_all (2 ^ 32) words (lit< tt) refl) 3 (lit≤ tt))
 

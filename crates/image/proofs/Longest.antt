@@ -1,5 +1,5 @@
 -- No image without a fault is longer than the largest image, and a longer input has the reply of its beginning. Assumes nothing.
-use Rattle.replies.specs.Reply.{Reply, is_done}
+use Rattle.replies.specs.Reply.{Reply}
 use Rattle.std.specs.Prelude.{Ok, Err}
 use mathlib.Core.Bool.{Bool, true, false, not, ◌&&◌, ◌||◌}
 use mathlib.Core.List.{List, [], ◌∷◌}
@@ -8,18 +8,19 @@ use Prim.Native.Nat.{ℕ, zero, suc, ◌+◌, ◌-◌, ◌*◌, ◌≤◌, ◌<�
 use native.Mathlib.Nat.{mul-le-mul_right, sub-zero}
 use native.Mathlib.Decide.{dec_lt}
 use native.Mathlib.Omega.{arith}
-use lib.Dec.{ltb, eqb, lit<}
+use lib.Dec.{ltb, eqb}
 use lib.ListN.{length, take, drop, get_or, length-take, length-drop}
 use lib.Seq.{take_all, take-take, get_or-take, get_or-drop}
 use borrow.Author.Tests.{lt-ltb, le-ltb, ltb-false}
 use Rattle.bits.specs.Choice.{pick}
 use Rattle.bits.proofs.Searches.{some_cong}
 use Rattle.octets.specs.Bytes.{value}
+use Rattle.replies.specs.declared.Refusal.{Refusal}
 use Rattle.replies.specs.declared.Refusal.TheVariants as R
 use Rattle.registers.proofs.Legality.{settings_has, quads}
 use Rattle.image.specs.Sections.{Section, setting, sections, section_at, count_of, content_of, is_missing, after, has_wrong, section_reply, or_else, sections_reply, bytes_of, largest_image}
 use Rattle.image.specs.Reading.{vl_of, sections_of, image_reply}
-use Rattle.image.proofs.SectionLaws.{taken, after_taken, taken_most, whole, is_done_lem, both_done, not-refused, neither}
+use Rattle.image.proofs.SectionLaws.{taken, after_taken, taken_most, whole, both_done, not-refused, neither}
 use Rattle.image.proofs.Writings.{largest_is}
 
 -- the most bytes that sections have
@@ -89,11 +90,8 @@ after-cut s rest m h =
 
 if_done : (f a b : Reply) → (f ≡ Ok tt → a ≡ b) → or_else f a ≡ or_else f b
 unfolding or_else
-if_done f a b h = go (is_done f) refl
-  where
-    go : (t : Bool) → is_done f ≡ t → pick t a f ≡ pick t b f
-    go true e = h (is_done_lem f e)
-    go false e = refl
+if_done (Ok tt) a b h = h refl
+if_done (Err r) a b h = refl
 
 -- given that the sections after it may be cut
 cut-first : (s : Section) (ss : List Section) (rest : List ℕ) (m : ℕ) → 4 + s.highest * s.item ≤ m
@@ -112,7 +110,7 @@ cut-sections (s ∷ ss) rest m h =
 
 no_longer : (ss : List Section) (rest : List ℕ) → sections_reply ss rest ≡ Ok tt → length rest ≤ most ss
 unfolding sections_reply bytes_of
-no_longer [] rest e = ltb-false 0 (length rest) (not-refused (ltb 0 (length rest)) (Err R.TrailingBytes) (Ok tt) (lit< tt) e).0
+no_longer [] rest e = ltb-false 0 (length rest) (not-refused (ltb 0 (length rest)) R.TrailingBytes (Ok tt) e).0
 no_longer (s ∷ ss) rest e =
     let a = both_done (section_reply s rest) (sections_reply ss (after s rest)) e in
     omega (arith, no_longer ss (after s rest) a.1, taken_most s rest a.0, ap length (after_taken s rest) ∙ length-drop (taken s rest) rest)
@@ -139,14 +137,14 @@ pub longest-read : (image : List ℕ) → sections_reply (sections_of image) ima
 unfolding sections sections_reply bytes_of
 longest-read image e = omega (arith, largest_is, no_longer (sections_of image) image e, named image (both_done (section_reply (section_at (sections_of image) 0) image) _ e).0)
 
-refused : (room : ℕ) (image : List ℕ) → is_done (sections_reply (sections_of image) image) ≡ false → image_reply room image ≡ sections_reply (sections_of image) image
+refused : (room : ℕ) (image : List ℕ) (r : Refusal) → sections_reply (sections_of image) image ≡ Err r → image_reply room image ≡ Err r
 unfolding image_reply or_else
-refused room image e = rw e
+refused room image r e = rw e
 
 -- An input that is longer than every image has the reply of its beginning, as long as that is longer than every image too ..
 pub reply_of_front : (n : ℕ) → largest_image < n → (room : ℕ) (image : List ℕ) → image_reply room (take n image) ≡ image_reply room image
 reply_of_front n h room image =
-    cases (is_done (sections_reply (sections_of image) image)) refl
+    cases (sections_reply (sections_of image) image) refl
   where
     same-vl : vl_of (take n image) ≡ vl_of image
     same-vl = ap (λ (b : ℕ). 128 * b) (byte_cut n image 0 (omega (arith, largest_is)))
@@ -154,9 +152,9 @@ reply_of_front n h room image =
     same : sections_reply (sections_of (take n image)) (take n image) ≡ sections_reply (sections_of image) image
     same = ap (λ (v : ℕ). sections_reply (sections v) (take n image)) same-vl ∙ sections-cut n h image
 
-    cases : (t : Bool) → is_done (sections_reply (sections_of image) image) ≡ t → image_reply room (take n image) ≡ image_reply room image
-    cases true e = ap (image_reply room) (take_all n image (omega (arith, longest-read image (is_done_lem (sections_reply (sections_of image) image) e))))
-    cases false e = refused room (take n image) (ap is_done same ∙ e) ∙ same ∙ sym (refused room image e)
+    cases : (f : Reply) → sections_reply (sections_of image) image ≡ f → image_reply room (take n image) ≡ image_reply room image
+    cases (Ok tt) e = ap (image_reply room) (take_all n image (omega (arith, longest-read image e)))
+    cases (Err r) e = refused room (take n image) r (same ∙ e) ∙ sym (refused room image r e)
 
 -- .. which one byte more than the largest image makes it.
 pub reply_of_beginning : (room : ℕ) (image : List ℕ) → image_reply room (take (suc largest_image) image) ≡ image_reply room image

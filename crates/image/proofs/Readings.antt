@@ -1,27 +1,29 @@
 -- What a reading answers, and what an image has that is read without a fault. Assumes nothing.
-use Rattle.replies.specs.Reply.{Reply, is_done}
+use Rattle.replies.specs.Reply.{Reply}
 use Rattle.std.specs.Prelude.{Ok, Err}
-use mathlib.Core.Bool.{Bool, true, false, not}
+use mathlib.Core.Bool.{true, false}
 use mathlib.Core.List.{List, [], ◌∷◌, ◌++◌}
 use mathlib.Core.Path.{◌≡◌, refl, sym, ap, ap₂, ◌∙◌, subst}
-use Prim.Native.Nat.{ℕ, zero, suc, ◌/◌, ◌≤◌, ◌<◌}
+use Prim.Native.Nat.{ℕ, zero, suc, ◌+◌, ◌*◌, ◌/◌, ◌≤◌, ◌<◌}
 use native.Mathlib.Decide.{dec_lt}
 use native.Mathlib.Omega.{arith}
-use lib.Dec.{ltb, eqb, lit<}
-use lib.ListN.{length, take, get_or, replicate}
-use lib.Seq.{sets, sets-eq, get_or-append_seam}
-use borrow.Author.Tests.{lt-ltb, le-ltb, ltb-false, ne_eqb, not-true, not-false}
-use Rattle.octets.specs.Bytes.{value, parts}
-use Rattle.octets.proofs.Bytes.{sets_over, length-parts}
-use Rattle.predicates.specs.declared.Flags.{Flags}
+use lib.Dec.{ltb, lit<}
+use lib.ListN.{length, take, drop, get_or}
+use Rattle.std.proofs.lemmas.List.{ext_get_or}
+use Rattle.std.specs.Array.{IsFromFnResult, IsFromFnResultFrom}
+use denote.Param.Members.{Mut, Called}
+use lib.Seq.{take_all, take-suc, get_or-take, length-take-le, get_or-append_seam}
+use borrow.Author.Tests.{le-ltb, ltb-false, ne_eqb}
+use Rattle.octets.specs.Bytes.{value, parts, over}
+use Rattle.octets.proofs.Bytes.{length-parts, parts_at}
 use Rattle.predicates.specs.declared.Predicate.{Predicate}
+use Rattle.replies.specs.declared.Refusal.{Refusal}
 use Rattle.replies.specs.declared.Refusal.TheVariants as R
 use Rattle.registers.specs.declared.State.{State}
-use Rattle.registers.specs.State.{all_false, ffr, made, read_p}
-use Rattle.image.specs.declared.Reading.{Reading}
+use Rattle.registers.specs.State.{all_false, ffr, read_p}
 use Rattle.image.specs.Sections.{Section, sections, section_at, shape_of, count_of, content_of, is_missing, after, section_reply, or_else, sections_reply, start_of}
-use Rattle.image.specs.Reading.{vl_of, sections_of, x_at, predicates_at, ffr_at, flags_at, words_at, is_old, image_reply, flags_in, predicate_of, ffr_in, state_of, words_of, blank, read_of, list_after}
-use Rattle.image.proofs.SectionLaws.{Whole, whole, fault_low, fault_high, first_fault, no_fault, is_done_lem, next, both_done, not-refused}
+use Rattle.image.specs.Reading.{vl_of, sections_of, predicates_at, ffr_at, words_at, is_old, image_reply, predicate_of, ffr_in, state_of, words_of, read_of, list_after}
+use Rattle.image.proofs.SectionLaws.{Whole, whole, fault_low, fault_high, next, both_done, not-refused}
 
 -- ---- an image without a fault: every section is whole unless it is missing, and nothing is left
 
@@ -39,7 +41,7 @@ wholes (s ∷ ss) rest e (suc i) l m = rw start_shift (wholes ss (after s rest) 
 
 pub none_left : (ss : List Section) (rest : List ℕ) → sections_reply ss rest ≡ Ok tt → length (start_of ss (length ss) rest) ≤ 0
 unfolding sections_reply start_of
-none_left [] rest e = ltb-false 0 (length rest) (not-refused (ltb 0 (length rest)) (Err R.TrailingBytes) (Ok tt) (lit< tt) e).0
+none_left [] rest e = ltb-false 0 (length rest) (not-refused (ltb 0 (length rest)) R.TrailingBytes (Ok tt) e).0
 none_left (s ∷ ss) rest e = rw start_shift (none_left ss (after s rest) (both_done (section_reply s rest) _ e).1)
 
 pub record Sound (room : ℕ) (image : List ℕ) : Type 0 where
@@ -52,7 +54,7 @@ pub sound : (room : ℕ) (image : List ℕ) → image_reply room image ≡ Ok tt
 unfolding image_reply sections
 sound room image e =
     let a = both_done (sections_reply (sections_of image) image) _ e in
-    let b = not-refused (ltb room (count_of (words_at image))) (Err R.BufferTooSmall) (Ok tt) (lit< tt) a.1 in
+    let b = not-refused (ltb room (count_of (words_at image))) R.BufferTooSmall (Ok tt) a.1 in
     record {
       each = wholes (sections_of image) image a.0;
       ends = none_left (sections_of image) image a.0;
@@ -66,34 +68,15 @@ done_with_room room image e h = next _ _ e ∙ rw (le-ltb _ _ h)
 
 -- the first section at fault answers
 pub first-at_fault : (ss : List Section) (i : ℕ) (rest : List ℕ) → i < length ss → ((j : ℕ) → j < i → section_reply (section_at ss j) (start_of ss j rest) ≡ Ok tt)
-    → (f : Reply) → f ≡ section_reply (section_at ss i) (start_of ss i rest) → is_done f ≡ false → sections_reply ss rest ≡ f
+    → (r : Refusal) → Err r ≡ section_reply (section_at ss i) (start_of ss i rest) → sections_reply ss rest ≡ Err r
 unfolding sections_reply start_of or_else
-first-at_fault [] i rest l before f e d = absurd (omega arith)
-first-at_fault (s ∷ ss) zero rest l before f e d = rw (← e, d)
-first-at_fault (s ∷ ss) (suc i) rest l before f e d =
+first-at_fault [] i rest l before r e = absurd (omega arith)
+first-at_fault (s ∷ ss) zero rest l before r e = rw (← e)
+first-at_fault (s ∷ ss) (suc i) rest l before r e =
     next _ _ (before 0 (omega arith))
-    ∙ first-at_fault ss i (after s rest) (omega arith) (λ j k. rw start_shift at (before (suc j) (omega arith))) f (rw start_shift at e) d
-
--- ---- the reply, as the code finds it
-
-module _ (room : ℕ) (image : List ℕ) (f : Reply) (t : Bool) (e : f ≡ sections_reply (sections_of image) image) (d : t ≡ is_done f) where
-  pub reply_fault : not t ≡ true → f ≡ image_reply room image
-  unfolding image_reply
-  reply_fault h = first_fault f _ _ t e d h
-
-  module _ (rest : List ℕ) (n : ℕ) (er : rest ≡ words_at image) (en : n ≡ count_of rest) (h : not t ≡ false) where
-    pub reply_crowded : room < n → (Err R.BufferTooSmall) ≡ image_reply room image
-    unfolding image_reply
-    reply_crowded l = rw (← er, ← en, lt-ltb _ _ l) (no_fault f _ (Err R.BufferTooSmall) t e d h)
-
-    pub reply_done : n ≤ room → (Ok tt) ≡ image_reply room image
-    unfolding image_reply
-    reply_done l = rw (← er, ← en, le-ltb _ _ l) (no_fault f _ (Ok tt) t e d h)
+    ∙ first-at_fault ss i (after s rest) (omega arith) (λ j k. rw start_shift at (before (suc j) (omega arith))) r (rw start_shift at e)
 
 -- ---- the state
-
-pub old_is : (image rest : List ℕ) (vl : ℕ) (t : Bool) → vl ≡ vl_of image → rest ≡ ffr_at image → t ≡ is_missing (section_at (sections vl) 3) rest → t ≡ is_old image
-old_is image rest vl t ev er e = e ∙ ap₂ (λ (v : ℕ) (r : List ℕ). is_missing (section_at (sections v) 3) r) ev er
 
 pub old_ffr : (image : List ℕ) → is_old image ≡ true → ffr_in image ≡ all_false
 unfolding ffr_in
@@ -103,27 +86,30 @@ pub new-ffr : (image : List ℕ) → is_old image ≡ false → ffr_in image ≡
 unfolding ffr_in
 new-ffr image e = rw e
 
--- as the code finds it
-module _ (image : List ℕ) (t : Bool) (p : Predicate) (e : t ≡ is_old image) where
-  pub found_old : t ≡ true → p ≡ all_false → p ≡ ffr_in image
-  found_old h ep = ep ∙ sym (old_ffr image (sym e ∙ h))
+-- what an array holds that was made by calls which change nothing
+module _ {F B : Type 0} (g : Mut F (ℕ × Unit {0}) B) (f : F) (h : ℕ → B) (pure : (i : ℕ) (y : B) (q : F) → Called g f (i, tt) y q → (q ≡ f) × (y ≡ h i)) where
+  filled_from : (ys : List B) (i n : ℕ) → IsFromFnResultFrom g f ys i n → (k : ℕ) (d : B) → i ≤ k → k < i + n → get_or ys k d ≡ h k
+  filled_from ys i zero m k d l u = absurd (omega arith)
+  filled_from ys i (suc n) m k d l u =
+      let p = pure i m.1 m.0 m.3 in
+      elim (dec_lt i k) [
+        | yes a ↦ filled_from ys (i + 1) n (subst (λ (q : F). IsFromFnResultFrom g q ys (i + 1) n) p.0 m.4) k d (omega arith) (omega arith)
+        | no a ↦ let e : k ≡ i = omega arith in rw e (m.2.1 d ∙ p.1)
+      ]
 
-  pub found_new : (content bs : List ℕ) (vl : ℕ) → t ≡ false → vl ≡ vl_of image → content ≡ content_of (ffr_at image) → bs ≡ take (vl / 64) content → p ≡ predicate_of bs → p ≡ ffr_in image
-  found_new content bs vl h ev ec eb ep = rw (ep, eb, ec, ev) (sym (new-ffr image (sym e ∙ h)))
+  pub filled : {ys : List B} {n : ℕ} → IsFromFnResult g f ys n → (k : ℕ) (d : B) → k < n → get_or ys k d ≡ h k
+  filled {ys} {n} m k d l = filled_from ys 0 n m.each k d (omega arith) (omega arith)
 
--- P stored in an array that is FFR in every place
-pub ffr_last : (f : Predicate) (ps : List Predicate) → length ps ≡ 16 → sets (replicate 17 f) 0 ps ≡ ps ++ (f ∷ [])
-ffr_last f ps e = sets-eq ps (replicate 17 f) 0 (omega arith) ∙ rw e
+-- an array of parts, and one with an item more
+pub each_part : {A : Type 0} (f : List ℕ → A) (k n : ℕ) (bs : List ℕ) (xs : List A) (d : A) → length xs ≡ n → ((i : ℕ) → i < n → get_or xs i d ≡ f (take k (drop (i * k) bs))) → xs ≡ parts f k n bs
+each_part f k n bs xs d e each =
+    ext_get_or d xs (parts f k n bs) (e ∙ sym (length-parts f k n bs)) (λ i l. let h : i < n = rw e at l in each i h ∙ sym (parts_at f k n i bs d h))
 
-pub state_from : (image settings fc xc pc : List ℕ) (vl a level : ℕ) (flags : Flags) (x : List ℕ) (f : Predicate) (p : List Predicate) (s : State)
-    → s ≡ made vl level (eqb a 1) flags x p
-    → vl ≡ vl_of image → settings ≡ content_of image → level ≡ get_or settings 1 0 → a ≡ get_or settings 2 0
-    → flags ≡ flags_in fc → fc ≡ content_of (flags_at image)
-    → x ≡ parts value 8 31 xc → xc ≡ content_of (x_at image)
-    → p ≡ parts predicate_of (vl / 64) 16 pc ++ (f ∷ []) → pc ≡ content_of (predicates_at image) → f ≡ ffr_in image
-    → s ≡ state_of image
-unfolding state_of
-state_from image settings fc xc pc vl a level flags x f p s es ev et el ea e1 e2 x1 x2 q1 q2 ef = rw (es, q1, ev, el, ea, et, e1, e2, x1, x2, q2, ef)
+pub ffr_last : (size : ℕ) (bs : List ℕ) (ps : List Predicate) (f : Predicate) → length ps ≡ 17 → ((i : ℕ) → i < 16 → get_or ps i f ≡ predicate_of (take size (drop (i * size) bs))) → get_or ps 16 f ≡ f
+    → ps ≡ parts predicate_of size 16 bs ++ (f ∷ [])
+ffr_last size bs ps f e each last =
+    sym (take_all 17 ps (omega arith)) ∙ take-suc ps 16 f (omega arith)
+    ∙ ap₂ (λ (xs : List Predicate) (x : Predicate). xs ++ (x ∷ [])) (each_part predicate_of size 16 bs (take 16 ps) f (length-take-le 16 ps (omega arith)) (λ i l. get_or-take 16 ps i f l ∙ each i l)) last
 
 -- ---- FFR
 
@@ -143,7 +129,7 @@ pub ffr-count : (room : ℕ) (image : List ℕ) → ((j : ℕ) → j < 3 → sec
     → 4 ≤ length (ffr_at image) → (count_of (ffr_at image) ≡ 1 → ⊥) → (count_of (ffr_at image) ≡ 4 → ⊥) → image_reply room image ≡ Err R.NotAllowed
 unfolding image_reply sections or_else
 ffr-count room image before h a b =
-    rw (first-at_fault (sections_of image) 3 image (lit< tt) before (Err R.NotAllowed) fault refl)
+    rw (first-at_fault (sections_of image) 3 image (lit< tt) before R.NotAllowed fault)
   where
     rest : List ℕ
     rest = ffr_at image
@@ -154,7 +140,7 @@ ffr-count room image before h a b =
     there : false ≡ is_missing s rest
     there = sym (ne_eqb (count_of rest) 4 b)
 
-    fault : (Err R.NotAllowed) ≡ section_reply s rest
+    fault : Err R.NotAllowed ≡ section_reply s rest
     fault =
         elim (dec_lt (count_of rest) 1) [
           | yes l ↦ fault_low s rest (shape_of s) (count_of rest) false there refl refl refl h l
@@ -163,19 +149,10 @@ ffr-count room image before h a b =
 
 -- ---- the answer and the list
 
-module _ (image list : List ℕ) (f : Reply) (t : Bool) (e : f ≡ image_reply (length list) image) (d : t ≡ is_done f) where
-  module _ (h : not t ≡ true) where
-    pub read-refused : (s : State) → s ≡ blank → ◌≡◌ {A = Reading} (record { reply = f; state = s; count = 0 }) (read_of (length list) image)
-    unfolding read_of
-    read-refused s b = rw (← e, ← d, not-true t h, b)
-
-    pub list_refused : list ≡ list_after image list
-    unfolding list_after
-    list_refused = rw (← e, ← d, not-true t h)
-
-  module _ (h : not t ≡ false) where
+module _ (image list : List ℕ) (f : Reply) (e : f ≡ image_reply (length list) image) where
+  module _ (h : f ≡ Ok tt) where
     found : Sound (length list) image
-    found = sound (length list) image (sym e ∙ is_done_lem f (sym d ∙ not-false t h))
+    found = sound (length list) image (sym e ∙ h)
 
     module _ (rest : List ℕ) (k : ℕ) (er : rest ≡ words_at image) (ek : k ≡ count_of rest) where
       -- the words are not too many, and have room
@@ -185,11 +162,10 @@ module _ (image list : List ℕ) (f : Reply) (t : Bool) (e : f ≡ image_reply (
       pub fill-room : k ≤ length list
       fill-room = rw (ek, er) found.fits
 
-      pub read_done : (s : State) → s ≡ state_of image → ◌≡◌ {A = Reading} (record { reply = f; state = s; count = k }) (read_of (length list) image)
+      pub read_done : (s : State) → s ≡ state_of image → Ok (record { state = s; count = k }) ≡ read_of (length list) image
       unfolding read_of
-      read_done s es = rw (← e, ← d, not-false t h, es, ek, er, is_done_lem f (sym d ∙ not-false t h))
+      read_done s es = rw (es, ek, er) (sym (next _ _ (sym e ∙ h)))
 
-      pub list_done : (past content : List ℕ) → content ≡ content_of rest → past ≡ sets list 0 (parts value 4 k content) → past ≡ list_after image list
-      unfolding list_after words_of
-      list_done past content ec ea =
-          rw (← e, ← d, not-false t h, ea, ek, ec, er) (sets_over list (parts value 4 (count_of (words_at image)) (content_of (words_at image))) (rw length-parts found.fits))
+      pub list_done : (words content : List ℕ) → content ≡ content_of rest → words ≡ parts value 4 (length (take k list)) content → words ++ drop k list ≡ list_after image list
+      unfolding list_after words_of over
+      list_done words content ec ew = rw (ew, length-take-le k list fill-room, ← e, h, ec, ek, er, length-parts)

@@ -21,7 +21,6 @@ use Rattle.octets.proofs.Bytes.{bytes_take, bytes_drop, length-le, value-le, val
 use Rattle.predicates.specs.declared.Predicate.{Predicate}
 use Rattle.predicates.specs.Predicate.{pack, predicate_length, has_bit_from}
 use Rattle.predicates.proofs.Words.{pack_words}
-use Rattle.replies.specs.declared.Refusal.TheVariants as R
 use Rattle.registers.specs.declared.State.{State}
 use Rattle.registers.specs.Legal.{has_all_registers, is_length, settings_allowed, legal}
 use Rattle.registers.specs.State.{all_false, ffr, counted, read_p}
@@ -254,9 +253,9 @@ module _ (s : State) (ws : List ℕ) (held : Held s) (ok : legal s ≡ true) (fe
       (parts-joined value 4 (le 4) 0 ws [] (λ i. length-le 4 (get_or ws i 0)) (λ i l. value-le 4 (get_or ws i 0) (words i)))
 
   -- Reading what was written gives that state and the number of those words ..
-  pub read-written : (room : ℕ) → length ws ≤ room → read_of room (image_of s ws) ≡ record { reply = Ok tt; state = s; count = length ws }
+  pub read-written : (room : ℕ) → length ws ≤ room → read_of room (image_of s ws) ≡ Ok (record { state = s; count = length ws })
   unfolding read_of
-  read-written room fit = rw (reply_written room fit, state_back, image_is, count_back)
+  read-written room fit = rw (state_back, image_is, count_back) (next _ _ (rw image_is at (reply_written room fit)))
 
   -- .. and puts those words in the list.
   pub list_written : (list : List ℕ) → length ws ≤ length list → list_after (image_of s ws) list ≡ over ws list
@@ -267,9 +266,9 @@ module _ (s : State) (ws : List ℕ) (held : Held s) (ok : legal s ≡ true) (fe
 
 -- A legal state with at most 4,096 words is written whenever the buffer has room.
 pub always-written : (s : State) (ws buffer : List ℕ) → legal s ≡ true → length ws ≤ 4096 → length (image_of s ws) ≤ length buffer
-    → (written_of s ws (length buffer) ≡ record { reply = Ok tt; length = length (image_of s ws) }) × (buffer_after s ws buffer ≡ over (image_of s ws) buffer)
+    → (written_of s ws (length buffer) ≡ Ok (length (image_of s ws))) × (buffer_after s ws buffer ≡ over (image_of s ws) buffer)
 unfolding written_of buffer_after
-always-written s ws buffer h few fit = let e = reply_done s ws (length buffer) h few fit in (rw (← e), rw (← e))
+always-written s ws buffer h few fit = let e = reply_done s ws (length buffer) h few fit in (next _ _ (sym e), rw (← e))
 
 pub shortest : (s : State) → has_all_registers s ≡ true → s.vl ≡ 128 → length (image_of s []) ≡ 313
 unfolding image_length sections bytes_of
@@ -537,7 +536,7 @@ module _ (image : List ℕ) (room : ℕ) (bytes : AreBytes image) (done : image_
 
   -- Writing what was read gives the same bytes, renewed, in every buffer that has room for them.
   pub rewritten : (buffer : List ℕ) → length (renewed image) ≤ length buffer
-      → (written_of (state_of image) (words_of image) (length buffer) ≡ record { reply = Ok tt; length = length (renewed image) })
+      → (written_of (state_of image) (words_of image) (length buffer) ≡ Ok (length (renewed image)))
       × (buffer_after (state_of image) (words_of image) buffer ≡ over (renewed image) buffer)
   rewritten buffer h = rw written_read at (always-written (state_of image) (words_of image) buffer read-legal read_few (rw written_read h))
 

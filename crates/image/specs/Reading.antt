@@ -1,13 +1,13 @@
 -- What reading an image answers. `room` is the length of the lent list.
 use Rattle.replies.specs.Reply.{Reply, is_done}
-use Rattle.std.specs.Prelude.{Ok, Err}
-use Rattle.std.specs.Prelude.{ℕ, ◌*◌, ◌/◌, Bool, false, List, [], ◌∷◌, ◌++◌, ltb, eqb, length, take, drop, get_or, replicate}
+use Rattle.std.specs.Prelude.{ℕ, ◌*◌, ◌/◌, Bool, false, List, [], ◌∷◌, ◌++◌, ltb, eqb, length, take, drop, get_or, replicate, Result, Ok, Err}
 use Rattle.bits.specs.Bits.{test_bit}
 use Rattle.bits.specs.Choice.{pick}
 use Rattle.octets.specs.Bytes.{value, parts, over}
 use Rattle.predicates.specs.declared.Flags.{Flags}
 use Rattle.predicates.specs.declared.Predicate.{Predicate}
 use Rattle.predicates.specs.Predicate.{pack}
+use Rattle.replies.specs.declared.Refusal.{Refusal}
 use Rattle.replies.specs.declared.Refusal.TheVariants as R
 use Rattle.registers.specs.declared.State.{State}
 use Rattle.registers.specs.State.{all_false, ffr, register_count, made}
@@ -78,14 +78,12 @@ renewed image =
 
 -- ---- the answer
 
--- the state that a refusal carries: VL 128, all else zero
+-- the state beside a refused reading: VL 128, all else zero
 unfoldable pub blank : State
 blank = made 128 0 false (record { n = false; z = false; c = false; v = false }) (replicate 31 0) (replicate register_count all_false)
 
-unfoldable pub read_of : ℕ → List ℕ → Reading
-read_of room image =
-    pick (is_done (image_reply room image)) (record { reply = Ok tt; state = state_of image; count = count_of (words_at image) })
-    (record { reply = image_reply room image; state = blank; count = 0 })
+unfoldable pub read_of : ℕ → List ℕ → Result Reading Refusal
+read_of room image = or_else (image_reply room image) (Ok (record { state = state_of image; count = count_of (words_at image) }))
 
 -- the lent list after a reading: the words, and past them what stood there; after a refusal as it was
 unfoldable pub list_after : List ℕ → List ℕ → List ℕ

@@ -1,12 +1,14 @@
 -- The sections of an image as data, in document 01's order. `rest` is what of the bytes is left to read, from a section's start on.
-use Rattle.replies.specs.Reply.{Reply, is_done}
-use Rattle.std.specs.Prelude.{Ok, Err}
-use Rattle.std.specs.Prelude.{ℕ, zero, suc, ◌+◌, ◌*◌, ◌/◌, Bool, true, false, not, ◌&&◌, ◌||◌, List, [], ◌∷◌, ltb, leb, eqb, length, take, drop, get_or}
+use Rattle.replies.specs.Reply.{Reply}
+use Rattle.std.specs.Prelude.{ℕ, zero, suc, ◌+◌, ◌*◌, ◌/◌, Bool, true, false, not, ◌&&◌, ◌||◌, List, [], ◌∷◌, ltb, leb, eqb, length, take, drop, get_or, Result, Ok, Err}
 use Rattle.bits.specs.Choice.{pick}
 use Rattle.bits.specs.Search.{some}
 use Rattle.octets.specs.Bytes.{value}
+use Rattle.replies.specs.declared.Refusal.{Refusal}
 use Rattle.replies.specs.declared.Refusal.TheVariants as R
 use Rattle.registers.specs.Legal.{settings_allowed}
+use Rattle.image.specs.declared.sections.Section.{Section as Name}
+use Rattle.image.specs.declared.sections.Section.TheVariants as N
 use Rattle.image.specs.declared.sections.Shape.{Shape}
 
 -- the range of its count, the bytes of an item, whether a byte is allowed at a place of its content, and whether it may be missing
@@ -44,6 +46,15 @@ sections vl =
 abbrev pub section_at : List Section → ℕ → Section
 section_at ss i = get_or ss i (record { lowest = 0; highest = 0; item = 0; allowed = any_byte; optional = false })
 
+-- the place of each
+abbrev pub place_of : Name → ℕ
+place_of N.Settings = 0
+place_of N.X = 1
+place_of N.P = 2
+place_of N.Ffr = 3
+place_of N.Flags = 4
+place_of N.Words = 5
+
 -- a section's numbers
 abbrev pub shape_of : Section → Shape
 shape_of s = record { lowest = s.lowest; highest = s.highest; item = s.item; optional = s.optional }
@@ -79,8 +90,9 @@ section_reply s rest =
 -- ---- all sections, one after the other
 
 -- the first fault answers
-unfoldable pub or_else : Reply → Reply → Reply
-or_else a b = pick (is_done a) b a
+unfoldable pub or_else : {A : Type 0} → Reply → Result A Refusal → Result A Refusal
+or_else (Ok _) b = b
+or_else (Err r) b = Err r
 
 -- the first section at fault answers; bytes after the last section 7
 unfoldable pub sections_reply : List Section → List ℕ → Reply

@@ -11,11 +11,14 @@ ghost use Rattle.image.specs.Reading.{read_of, list_after};
 ghost use Rattle.image.specs.Writing.{written_of, buffer_after};
 
 use registers::State;
-use replies::Reply;
+use replies::Refusal;
 
 mod reader;
 pub mod sections;
 mod writer;
+
+pub use reader::blank;
+use sections::Section;
 
 // The most bytes that an image has: a constant, for the lengths of arrays.
 pub const LARGEST: usize = 17207;
@@ -29,68 +32,40 @@ pub fn largest() -> usize
 
 #[derive(Clone, Copy)]
 pub struct Reading {
-    pub reply: Reply,
     pub state: State,
     // How many words were put in the lent list.
     pub count: usize,
 }
 
-#[derive(Clone, Copy)]
-pub struct Written {
-    pub reply: Reply,
-    // How many bytes the image has.
-    pub length: usize,
-}
-
 // The image's state, with its words put in the lent list; a refusal leaves the list as it was.
-pub fn read(image: &[u8], words: &mut [u32]) -> Reading
+pub fn read(image: &[u8], words: &mut [u32]) -> Result<Reading, Refusal>
     ensures value { result ≡ read_of (length words.old) image.now }
     ensures words_after { words.new ≡ list_after image.now words.old }
 {
-    let reply = reader::image_reply(image, words.len());
-    if !reply.is_done() {
-        let state = reader::blank();
-        return Reading {
-            reply,
-            state,
-            count: 0,
-        };
-    }
-    let rest = sections::start_of(image, sections::WORDS);
+    reader::image_reply(image, words.len())?;
+    let rest = sections::start_of(image, Section::Words);
     let count = sections::count_of(rest);
-    reader::fill(octets::after(rest, 4), count, words);
+    reader::fill(octets::after(rest, 4), &mut words[..count]);
     let state = reader::state_of(image);
-    Reading {
-        reply,
-        state,
-        count,
-    }
+    Ok(Reading { state, count })
 }
 
-// The image of a state and words at the front of the buffer; a refusal leaves the buffer as it was.
-pub fn write(state: State, words: &[u32], image: &mut [u8]) -> Written
+// The image of a state and words at the front of the buffer, and how many bytes it has; a refusal leaves the buffer as it was.
+#[tactic(auto, unfolding(crate::specs::Writing::write_reply, crate::specs::Writing::written_of, crate::specs::Writing::buffer_after, crate::specs::Sections::or_else))]
+pub fn write(state: State, words: &[u32], image: &mut [u8]) -> Result<usize, Refusal>
     ensures value { result ≡ written_of state words.now (length image.old) }
     ensures image_after { image.new ≡ buffer_after state words.now image.old }
 {
     if !state.is_legal() {
-        return refused(Reply::IllegalState);
+        return Err(Refusal::IllegalState);
     }
     if 4096 < words.len() {
-        return refused(Reply::NotAllowed);
+        return Err(Refusal::NotAllowed);
     }
     let length = writer::image_length(state.vl, words.len());
     if image.len() < length {
-        return refused(Reply::BufferTooSmall);
+        return Err(Refusal::BufferTooSmall);
     }
     writer::put_image(image, state, words);
-    Written {
-        reply: Reply::Done,
-        length,
-    }
-}
-
-fn refused(reply: Reply) -> Written
-    ensures { result ≡ record { reply = reply; length = 0 } }
-{
-    Written { reply, length: 0 }
+    Ok(length)
 }

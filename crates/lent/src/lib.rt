@@ -12,8 +12,7 @@ use replies::Reply;
 pub fn step(s: &mut State, word: u32) -> Reply
     ensures { (result ≡ (step_of s.old word).reply) × (s.new ≡ (step_of s.old word).state) }
 {
-    let t = *s;
-    let r = Machine { state: t }.step(word);
-    *s = r.state;
-    r.reply
+    let stepped = Machine { state: *s }.step(word);
+    *s = stepped.state;
+    stepped.reply
 }

@@ -46,10 +46,8 @@ fn write(
 {
     registers::parts::put_flags(flags, r.flags, e.nzcv);
     registers::parts::put_x(x, r.rd, e.rd);
-    let pd = e.pd;
-    registers::parts::put_p(p, counts, settings.vl, r.pd, pd);
-    let pd2 = e.pd2;
-    registers::parts::put_p(p, counts, settings.vl, r.pd2, pd2);
+    registers::parts::put_p(p, counts, settings.vl, r.pd, e.pd);
+    registers::parts::put_p(p, counts, settings.vl, r.pd2, e.pd2);
 }
 
 // An instruction that the state may refuse, executed where the registers stand.

@@ -5,13 +5,13 @@
 // reply to the word it stopped at.
 #![tactic(auto)]
 
-ghost use Rattle.std.specs.Prelude.{◌≡◌, Ok};
+ghost use Rattle.std.specs.Prelude.{◌≡◌, Ok, Err};
 ghost use Rattle.bits.specs.Choice.{pick};
 ghost use Rattle.predicates.specs.PredTest.{flags_of};
 ghost use Rattle.registers.specs.State.{with_flags};
 ghost use Rattle.instructions.specs.Effect.{effect_in};
 ghost use Rattle.machine.specs.Execute.{values_of, apply as apply_of};
-ghost use Rattle.machine.specs.Step.{admission_of, after_word, step_of, run_of};
+ghost use Rattle.machine.specs.Step.{admission_of, answered, after_word, step_of, run_of};
 
 pub mod engine;
 
@@ -25,6 +25,18 @@ use words::Instruction;
 pub struct Stepped {
     pub reply: Reply,
     pub state: State,
+}
+
+impl Stepped {
+    // A refusal, with the state that was given.
+    fn refused(refusal: Refusal, state: State) -> Stepped
+        ensures { result ≡ answered (Err refusal) state }
+    {
+        Stepped {
+            reply: Err(refusal),
+            state,
+        }
+    }
 }
 
 // How many words were executed, the reply to the one after them, and the state that they left. The run's own reply is 0, or 4 for an illegal state.
@@ -49,16 +61,10 @@ impl Machine {
     {
         let state = self.state;
         if !state.is_legal() {
-            return Stepped {
-                reply: Err(Refusal::IllegalState),
-                state,
-            };
+            return Stepped::refused(Refusal::IllegalState, state);
         }
         match words::decode(word) {
-            Err(refusal) => Stepped {
-                reply: Err(refusal),
-                state,
-            },
+            Err(refusal) => Stepped::refused(refusal, state),
             Ok(i) => attempt(state, i),
         }
     }
@@ -69,20 +75,16 @@ impl Machine {
     {
         let state = self.state;
         let settings = state.settings();
-        let f = state.flags;
-        let mut flags = registers::parts::bits_of_flags(f);
+        let mut flags = registers::parts::bits_of_flags(state.flags);
         let mut x = state.x;
-        let held = state.p;
-        let mut p = registers::parts::words_of(held);
-        let kept = state.counts;
-        let mut counts = registers::parts::numbers_of(kept);
+        let mut p = registers::parts::words_of(state.p);
+        let mut counts = registers::parts::numbers_of(state.counts);
         let went = engine::run(settings, &mut flags, &mut x, &mut p, &mut counts, words);
-        let next = registers::parts::state_of(settings, flags, x, p, counts);
         Ran {
             reply: went.reply,
             refused: went.refused,
             done: went.done,
-            state: next,
+            state: registers::parts::state_of(settings, flags, x, p, counts),
         }
     }
 }
@@ -111,10 +113,7 @@ fn attempt(state: State, i: Instruction) -> Stepped
     let v = values(state, r);
     let accepted = instructions::accepts(i, v);
     if let Err(refusal) = admission(i, state.level, state.access, accepted) {
-        return Stepped {
-            reply: Err(refusal),
-            state,
-        };
+        return Stepped::refused(refusal, state);
     }
     let next = apply(state, r, instructions::compute(i, v, state.vl));
     Stepped {
@@ -155,10 +154,8 @@ fn set_flags(state: State, sets: bool, nzcv: u64) -> State
 fn apply(state: State, r: Registers, e: Computed) -> State
     ensures { result ≡ apply_of state r (effect_in e) }
 {
-    let pd = e.pd;
-    let pd2 = e.pd2;
     set_flags(state, r.flags, e.nzcv)
         .with_x(r.rd, e.rd)
-        .with_p(r.pd, pd)
-        .with_p(r.pd2, pd2)
+        .with_p(r.pd, e.pd)
+        .with_p(r.pd2, e.pd2)
 }

@@ -1,13 +1,15 @@
 -- What a kernel's step and walk answer, permitted or not; and whose flags stand where. Assumes nothing.
+use Rattle.replies.specs.declared.Refusal.TheVariants as R
 use Rattle.replies.specs.Reply.{Reply}
-use Rattle.std.specs.Prelude.{Ok}
-use mathlib.Core.Bool.{Bool, true, false, not, ◌||◌}
+use Rattle.std.specs.Prelude.{Ok, Err}
+use Rattle.replies.specs.declared.Refusal.{Refusal}
+use mathlib.Core.Logic.{◌⊎◌, inl, inr}
+use mathlib.Core.Bool.{Bool, true, false, not}
 use mathlib.Core.List.{List}
-use mathlib.Core.Path.{◌≡◌, sym, ap, ◌∙◌, subst}
+use mathlib.Core.Path.{◌≡◌, sym, ap, ◌∙◌, subst, refl}
 use Prim.Native.Nat.{ℕ}
-use lib.Dec.{eqb}
 use lib.ListN.{length}
-use borrow.Author.Tests.{not-true, not-false, eq-eqb, ne_eqb}
+use borrow.Author.Tests.{not-true, not-false}
 use Rattle.predicates.specs.declared.Flags.{Flags}
 use Rattle.registers.specs.declared.State.{State}
 use Rattle.registers.specs.State.{with_flags}
@@ -21,7 +23,7 @@ use Rattle.shared.specs.declared.Kernel.{Kernel}
 use Rattle.shared.specs.declared.Kernel.TheVariants.{First, Second}
 use Rattle.shared.specs.declared.Shared.{Shared}
 use Rattle.shared.specs.declared.Walked.{Walked}
-use Rattle.shared.specs.Inside.{may_step, barred}
+use Rattle.shared.specs.Inside.{stands_after, may_step, barred}
 use Rattle.shared.specs.Ownership.{may_walk}
 use Rattle.shared.specs.Shared.{flags_for, state_for, shared_after, step_of, refusal_of, walked_for, walk_of, list_of, walked_by}
 use Rattle.shared.proofs.Ways.{left_has, barred_done, step_may, step-not, refusal_may, refusal-not, walk_may, walk-not, list_may, list_not}
@@ -40,29 +42,32 @@ pub second_after : (who : Kernel) (s : Shared) (t u : State) → who ≡ Second 
 unfolding shared_after
 second_after who s t u e h = ap (λ (v : State). record { state = v; second = t.flags }) h ∙ ap (λ (w : Kernel). shared_after w s t) (sym e)
 
--- ---- whether 15 stands before a reply, test by test
+-- ---- whether 15 stands before a reply
 
-pub stands_here : {a : Bool} (b : Bool) → a ≡ true → true ≡ (a || b)
-stands_here b h = sym (ap (λ (c : Bool). c || b) h)
+-- it does before 14 and 11
+pub stands-either : (e : Refusal) → (e ≡ R.NotMonotonic) ⊎ (e ≡ R.ListTooShort) → stands_after (Err e) ≡ true
+unfolding stands_after
+stands-either e (inl h) = ap (λ (r : Refusal). stands_after (Err r)) h
+stands-either e (inr h) = ap (λ (r : Refusal). stands_after (Err r)) h
 
-pub stands_later : {a : Bool} (b c : Bool) → a ≡ false → c ≡ b → c ≡ (a || b)
-stands_later b c h q = q ∙ sym (ap (λ (x : Bool). x || b) h)
-
-pub as_tested : {t a : Bool} (v : Bool) → t ≡ a → t ≡ v → a ≡ v
-as_tested v e h = sym e ∙ h
-
--- a number that is, or is not, that of the reply
-module _ {m n : ℕ} (k : ℕ) (e : m ≡ n) where
-  pub is_number : m ≡ k → eqb n k ≡ true
-  is_number h = eq-eqb n k (sym e ∙ h)
-
-  pub no_number : (m ≡ k → ⊥) → eqb n k ≡ false
-  no_number h = ne_eqb n k (λ q. h (e ∙ q))
-
-  pub last_number : eqb m k ≡ eqb n k
-  last_number = ap (λ (x : ℕ). eqb x k) e
-
-pub ruleset standing = (stands_here, stands_later, as_tested, is_number, no_number, last_number)
+-- and before no other
+pub stands-not : (e : Refusal) → (e ≡ R.NotMonotonic → ⊥) → (e ≡ R.ListTooShort → ⊥) → stands_after (Err e) ≡ false
+unfolding stands_after
+stands-not R.NotMonotonic h k = absurd (h refl)
+stands-not R.ListTooShort h k = absurd (k refl)
+stands-not R.ForeignWord h k = refl
+stands-not R.LevelTooLow h k = refl
+stands-not R.AccessOff h k = refl
+stands-not R.IllegalState h k = refl
+stands-not R.ImageCut h k = refl
+stands-not R.NotAllowed h k = refl
+stands-not R.TrailingBytes h k = refl
+stands-not R.BufferTooSmall h k = refl
+stands-not R.FieldPastRange h k = refl
+stands-not R.BadWalkRegisters h k = refl
+stands-not R.BudgetSpent h k = refl
+stands-not R.UnsupportedForm h k = refl
+stands-not R.NotOwned h k = refl
 
 -- ---- a step
 

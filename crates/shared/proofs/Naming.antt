@@ -2,7 +2,6 @@
 use Rattle.std.specs.Prelude.{Result}
 use Rattle.std.specs.Prelude.{Ok, Err}
 use Rattle.replies.specs.declared.Refusal.{Refusal}
-use Rattle.replies.specs.Reply.{Reply}
 use mathlib.Core.Bool.{Bool, true, false, not, ◌&&◌, ◌||◌}
 use mathlib.Core.Path.{◌≡◌, refl, sym, ap, ◌∙◌}
 use Prim.Native.Nat.{ℕ, ◌≤◌, ◌<◌}
@@ -93,7 +92,7 @@ nobodys Second = refl
 -- ---- a word, by what it is
 
 module _ (who : Kernel) (w : ℕ) (d : Result Instruction Refusal) (is : d ≡ decode_of w) where
-  pub refused_may : (r : Reply) → d ≡ Err r → true ≡ may_step who (decode_of w)
+  pub refused_may : (r : Refusal) → d ≡ Err r → true ≡ may_step who (decode_of w)
   unfolding may_step
   refused_may r e = sym (ap (may_step who) (sym is ∙ e))
 

@@ -1,4 +1,5 @@
 -- Each reply of a kernel's step is given exactly when the table says; the order of a walk's; and what follows of the shared state. Assumes nothing.
+use Rattle.replies.specs.declared.Refusal.{Refusal}
 use Rattle.replies.specs.Reply.{Reply, is_done}
 use Rattle.std.specs.Prelude.{Ok, Err}
 use mathlib.Core.Bool.{Bool, true, false, not}
@@ -57,7 +58,7 @@ theirs Second s t = refl
 -- ---- the reply of a legal state's step, from what the word is
 
 module _ (who : Kernel) (s : Shared) (w : ℕ) (ok : legal s.state ≡ true) where
-  refused_is : (r : Reply) → decode_of w ≡ Err r → step_of who s w ≡ record { reply = r; shared = s }
+  refused_is : (r : Refusal) → decode_of w ≡ Err r → step_of who s w ≡ record { reply = Err r; shared = s }
   unfolding after_word
   refused_is r h = step_after who s w ok ∙ ap (after_word who s) h
 
@@ -94,8 +95,8 @@ module _ (who : Kernel) (s : Shared) (w : ℕ) where
   -- a reply that the table gives is the step's
   given_reply : (r : Reply) → Given who s w r → (step_of who s w).reply ≡ r
   given_reply (Err IllegalState) (illegal h) = ap (λ (t : Stepped). t.reply) (step-illegal who s w h)
-  given_reply (Err ForeignWord) (foreign ok h) = ap (λ (t : Stepped). t.reply) (refused_is who s w ok (Err ForeignWord) ((foreign_read w).1 h))
-  given_reply (Err UnsupportedForm) (unsupported ok h k) = ap (λ (t : Stepped). t.reply) (refused_is who s w ok (Err UnsupportedForm) (unread w h k))
+  given_reply (Err ForeignWord) (foreign ok h) = ap (λ (t : Stepped). t.reply) (refused_is who s w ok ForeignWord ((foreign_read w).1 h))
+  given_reply (Err UnsupportedForm) (unsupported ok h k) = ap (λ (t : Stepped). t.reply) (refused_is who s w ok UnsupportedForm (unread w h k))
   given_reply (Err LevelTooLow) (low i ok h l) = ap (λ (t : Stepped). t.reply) (low_is who s w ok i h l)
   given_reply (Err AccessOff) (off i ok h l a) = ap (λ (t : Stepped). t.reply) (off_is who s w ok i h l a)
   given_reply (Err NotOwned) (not_owned i ok h l a m) = ap (λ (t : Stepped). t.reply) (barred_is who s w ok i h l a m)
@@ -119,15 +120,15 @@ module _ (who : Kernel) (s : Shared) (w : ℕ) where
       is h = sym (for_legal who s) ∙ h
 
       by_owner : (i : Instruction) → legal (state_for who s) ≡ true → decode_of w ≡ Ok i → level_of i ≤ s.state.level → s.state.access ≡ true → (b : Bool) → may_name who (registers_of i) ≡ b → (r : Reply) × Given who s w r
-      by_owner i ok h l a true m = ((Ok tt), done i (is ok) h l a m)
-      by_owner i ok h l a false m = ((Err NotOwned), not_owned i (is ok) h l a m)
+      by_owner i ok h l a true m = (Ok tt, done i (is ok) h l a m)
+      by_owner i ok h l a false m = (Err NotOwned, not_owned i (is ok) h l a m)
 
       go : (r : Reply) → Rows.Given (state_for who s) w r → (q : Reply) × Given who s w q
-      go (Err IllegalState) (row_4 h) = ((Err IllegalState), illegal (is h))
-      go (Err ForeignWord) (row_1 ok h) = ((Err ForeignWord), foreign (is ok) h)
-      go (Err UnsupportedForm) (row_13 ok h k) = ((Err UnsupportedForm), unsupported (is ok) h k)
-      go (Err LevelTooLow) (row_2 i ok h l) = ((Err LevelTooLow), low i (is ok) h l)
-      go (Err AccessOff) (row_3 i ok h l a) = ((Err AccessOff), off i (is ok) h l a)
+      go (Err IllegalState) (row_4 h) = (Err IllegalState, illegal (is h))
+      go (Err ForeignWord) (row_1 ok h) = (Err ForeignWord, foreign (is ok) h)
+      go (Err UnsupportedForm) (row_13 ok h k) = (Err UnsupportedForm, unsupported (is ok) h k)
+      go (Err LevelTooLow) (row_2 i ok h l) = (Err LevelTooLow, low i (is ok) h l)
+      go (Err AccessOff) (row_3 i ok h l a) = (Err AccessOff, off i (is ok) h l a)
       go (Err NotMonotonic) (row_14 pn ok h l a m) = by_owner (Wrffr pn) ok h l a (may_name who (registers_of (Wrffr pn))) refl
       go (Ok tt) (row_0 i ok h l a m) = by_owner i ok h l a (may_name who (registers_of i)) refl
       go (Err ImageCut) none = elim none [ ]
@@ -154,8 +155,8 @@ module _ (who : Kernel) (s : Shared) (w : ℕ) where
     where
       go : (r : Reply) → Given who s w r → (step_of who s w).shared ≡ s
       go (Err IllegalState) (illegal b) = ap (λ (t : Stepped). t.shared) (step-illegal who s w b)
-      go (Err ForeignWord) (foreign ok b) = ap (λ (t : Stepped). t.shared) (refused_is who s w ok (Err ForeignWord) ((foreign_read w).1 b))
-      go (Err UnsupportedForm) (unsupported ok b k) = ap (λ (t : Stepped). t.shared) (refused_is who s w ok (Err UnsupportedForm) (unread w b k))
+      go (Err ForeignWord) (foreign ok b) = ap (λ (t : Stepped). t.shared) (refused_is who s w ok ForeignWord ((foreign_read w).1 b))
+      go (Err UnsupportedForm) (unsupported ok b k) = ap (λ (t : Stepped). t.shared) (refused_is who s w ok UnsupportedForm (unread w b k))
       go (Err LevelTooLow) (low i ok b l) = ap (λ (t : Stepped). t.shared) (low_is who s w ok i b l)
       go (Err AccessOff) (off i ok b l a) = ap (λ (t : Stepped). t.shared) (off_is who s w ok i b l a)
       go (Err NotOwned) (not_owned i ok b l a m) = ap (λ (t : Stepped). t.shared) (barred_is who s w ok i b l a m)

@@ -10,11 +10,9 @@ use Prim.Native.Nat.{ℕ}
 use native.Mathlib.Omega.{arith}
 use lib.Dec.{ltb, eqb}
 use lib.ListN.{length}
-use borrow.Author.Tests.{eqb-true}
 use Rattle.bits.specs.Choice.{pick}
 use Rattle.bits.proofs.Searches.{never}
 use Rattle.replies.specs.declared.Refusal.TheVariants.{LevelTooLow, AccessOff, IllegalState, BadWalkRegisters, ListTooShort, NotMonotonic, NotOwned}
-use Rattle.replies.proofs.Replies.{number_done}
 use Rattle.registers.specs.declared.State.{State}
 use Rattle.registers.specs.Legal.{legal}
 use Rattle.registers.specs.State.{with_flags}
@@ -60,6 +58,11 @@ left_alone Second s = refl
 pub for_legal : (who : Kernel) (s : Shared) → legal (state_for who s) ≡ legal s.state
 unfolding state_for
 for_legal who s = with_flags-legal s.state (flags_for who s)
+
+-- what is done is no refusal
+done_is : (r : Reply) → is_done r ≡ true → r ≡ Ok tt
+done_is (Ok tt) e = refl
+done_is (Err r) e = never e refl
 
 -- ---- replies where a register is not the kernel's
 
@@ -115,7 +118,7 @@ module _ (who : Kernel) (s : Shared) where
 
   after_may : (d : Result Instruction Refusal) → may_step who d ≡ true → after_word who s d ≡ stepped_for (Machine.after_word has d)
   unfolding may_step after_word Machine.after_word state_for with_flags
-  after_may (Err r) h = stays r
+  after_may (Err e) h = stays (Err e)
   after_may (Ok i) h =
       let v = values_of has (registers_of i) in
       go (ltb s.state.level (level_of i)) s.state.access (may_name who (registers_of i)) (accepts i v) h (takes who i v h)
@@ -230,7 +233,7 @@ module _ (who : Kernel) (size n m d k budget : ℕ) (s : Shared) (l : List ℕ) 
   barred-refused h = go (is_done refused) refl
     where
       go : (b : Bool) → is_done refused ≡ b → is_done refused ≡ false
-      go true e = absurd (barred_done ordinary (sym (refusal-not who size n m d k s h (length l)) ∙ number_done refused (eqb-true (number_of refused) 0 e)))
+      go true e = absurd (barred_done ordinary (sym (refusal-not who size n m d k s h (length l)) ∙ done_is refused e))
       go false e = e
 
   pub walk-not : may_walk who n m d k ≡ false

@@ -55,7 +55,7 @@ reply_of who s i =
 
 -- before these come 1 and 13, of a word that is no instruction. An instruction that nothing refuses is executed on the state as the kernel has it; a refusal returns what it was given
 unfoldable pub after_word : Kernel → Shared → Result Instruction Refusal → Stepped
-after_word who s (Err r) = record { reply = r; shared = s }
+after_word who s (Err r) = record { reply = Err r; shared = s }
 after_word who s (Ok i) =
     let r = reply_of who s i in
     record { reply = r; shared = pick (is_done r) (shared_after who s (execute_of (state_for who s) i)) s }

@@ -4,8 +4,7 @@
 // a step refuses in the order 4, 1 or 13, 2, 3, 15, a walk in the order 4, 10, 2, 3, 15, 11, 12; a refusal but 12 leaves all as it was.
 #![tactic(auto)]
 
-ghost use Rattle.std.specs.Prelude.{◌≡◌, length};
-ghost use Rattle.replies.specs.declared.Reply.TheVariants.{Done};
+ghost use Rattle.std.specs.Prelude.{◌≡◌, length, Ok};
 ghost use Rattle.words.specs.Words.{size_of, decode_of};
 ghost use Rattle.walk.specs.Demand.{Demand3};
 ghost use Rattle.shared.specs.Inside.{may_step, stands_after, barred};
@@ -16,10 +15,10 @@ use instructions::Registers;
 use machine::Machine;
 use predicates::Flags;
 use registers::State;
-use replies::Reply;
-use words::Decoded;
+use replies::{Refusal, Reply};
+use walk::Request;
 
-#[derive(Clone, Copy)]
+#[derive(Clone, Copy, PartialEq, Eq, Debug)]
 pub enum Kernel {
     First,
     Second,
@@ -54,22 +53,21 @@ impl Kernel {
         ensures { result ≡ kernel_of second }
     {
         if second {
-            return Kernel::Second;
+            Kernel::Second
+        } else {
+            Kernel::First
         }
-        Kernel::First
     }
 
     // Its own X registers, 31, and what stands for no register: a number past them all.
     fn may_name_x(self, r: u64) -> bool
         ensures { result ≡ may_name_x self r }
     {
-        if 30 < r {
-            return true;
-        }
-        match self {
-            Kernel::First => r < 16,
-            Kernel::Second => 15 < r,
-        }
+        30 < r
+            || match self {
+                Kernel::First => r < 16,
+                Kernel::Second => 15 < r,
+            }
     }
 
     // Its own P registers, and what stands for no register: a number past FFR's, which is 16.
@@ -92,53 +90,32 @@ impl Kernel {
     fn may_name(self, r: Registers) -> bool
         ensures { result ≡ may_name self r }
     {
-        if !self.may_name_x(r.rn) {
-            return false;
-        }
-        if !self.may_name_x(r.rm) {
-            return false;
-        }
-        if !self.may_name_x(r.rd) {
-            return false;
-        }
-        if !self.may_name_p(r.pg) {
-            return false;
-        }
-        if !self.may_name_p(r.pn) {
-            return false;
-        }
-        if !self.may_name_p(r.pm) {
-            return false;
-        }
-        if !self.may_name_p(r.pd) {
-            return false;
-        }
-        self.may_name_p(r.pd2)
+        self.may_name_x(r.rn)
+            && self.may_name_x(r.rm)
+            && self.may_name_x(r.rd)
+            && self.may_name_p(r.pg)
+            && self.may_name_p(r.pn)
+            && self.may_name_p(r.pm)
+            && self.may_name_p(r.pd)
+            && self.may_name_p(r.pd2)
     }
 
     fn may_step(self, word: u32) -> bool
         ensures { result ≡ may_step self (decode_of word) }
     {
-        let decoded = words::decode(word);
-        match decoded {
-            Decoded::Refused(_) => true,
-            Decoded::Ours(i) => self.may_name(instructions::registers_of(i)),
+        match words::decode(word) {
+            Err(_) => true,
+            Ok(i) => self.may_name(instructions::registers_of(i)),
         }
     }
 
-    fn may_walk(self, n: u32, m: u32, d: u32, k: u32) -> bool
-        ensures { result ≡ may_walk self n m d k }
+    fn may_walk(self, request: Request) -> bool
+        ensures { result ≡ may_walk self request.n request.m request.d request.k }
     {
-        if !self.may_name_x(n as u64) {
-            return false;
-        }
-        if !self.may_name_x(m as u64) {
-            return false;
-        }
-        if !self.may_name_p(d as u64) {
-            return false;
-        }
-        self.may_name_p(k as u64)
+        self.may_name_x(u64::from(request.n))
+            && self.may_name_x(u64::from(request.m))
+            && self.may_name_p(u64::from(request.d))
+            && self.may_name_p(u64::from(request.k))
     }
 }
 
@@ -146,14 +123,10 @@ impl Kernel {
 fn stands_after(r: Reply) -> bool
     ensures { result ≡ stands_after r }
 {
-    if r.is_done() {
-        return true;
+    match r {
+        Ok(()) => true,
+        Err(refusal) => matches!(refusal, Refusal::NotMonotonic | Refusal::ListTooShort),
     }
-    let number = r.number();
-    if number == 14 {
-        return true;
-    }
-    number == 11
 }
 
 // An ordinary reply where a register is not the kernel's: 15, or the one that stands before it.
@@ -161,9 +134,10 @@ fn barred(r: Reply) -> Reply
     ensures { result ≡ barred r }
 {
     if stands_after(r) {
-        return Reply::NotOwned;
+        Err(Refusal::NotOwned)
+    } else {
+        r
     }
-    r
 }
 
 impl Shared {
@@ -171,10 +145,7 @@ impl Shared {
         ensures { result ≡ flags_for kernel self }
     {
         match kernel {
-            Kernel::First => {
-                let state = self.state;
-                state.flags
-            }
+            Kernel::First => self.state.flags,
             Kernel::Second => self.second,
         }
     }
@@ -183,8 +154,7 @@ impl Shared {
     fn state_for(self, kernel: Kernel) -> State
         ensures { result ≡ state_for kernel self }
     {
-        let state = self.state;
-        state.with_flags(self.flags_for(kernel))
+        self.state.with_flags(self.flags_for(kernel))
     }
 
     // The registers that a kernel leaves, and its flags in their place.
@@ -192,17 +162,14 @@ impl Shared {
         ensures { result ≡ shared_after kernel self state }
     {
         match kernel {
-            Kernel::First => {
-                let second = self.second;
-                Shared { state, second }
-            }
-            Kernel::Second => {
-                let second = state.flags;
-                let held = self.state;
-                let first = held.flags;
-                let state = state.with_flags(first);
-                Shared { state, second }
-            }
+            Kernel::First => Shared {
+                state,
+                second: self.second,
+            },
+            Kernel::Second => Shared {
+                state: state.with_flags(self.state.flags),
+                second: state.flags,
+            },
         }
     }
 
@@ -212,39 +179,27 @@ impl Shared {
     {
         let state = self.state_for(kernel);
         let stepped = Machine { state }.step(word);
-        let reply = stepped.reply;
         if !kernel.may_step(word) {
             return Stepped {
-                reply: barred(reply),
+                reply: barred(stepped.reply),
                 shared: self,
             };
         }
-        let next = stepped.state;
         Stepped {
-            reply,
-            shared: self.after(kernel, next),
+            reply: stepped.reply,
+            shared: self.after(kernel, stepped.state),
         }
     }
 
     // A kernel's walk from Xn to Xm with lanes Pd and cursor Pk: each position visited goes to the next place of `list`.
-    pub fn walk(
-        self,
-        kernel: Kernel,
-        size: u32,
-        n: u32,
-        m: u32,
-        d: u32,
-        k: u32,
-        list: &mut [u64],
-        budget: u64,
-    ) -> Walked
-        ensures answer { result ≡ walk_of kernel size n m d k budget self list.old }
-        ensures places { list.new ≡ list_of kernel size n m d k budget self list.old }
-        ensures demand { refusal_of kernel size n m d k self (length list.old) ≡ Done → Demand3 (size_of size) n m d k budget (state_for kernel self) list.old list.new (walked_by kernel result) }
+    pub fn walk(self, kernel: Kernel, request: Request, list: &mut [u64], budget: u64) -> Walked
+        ensures answer { result ≡ walk_of kernel request.size request.n request.m request.d request.k budget self list.old }
+        ensures places { list.new ≡ list_of kernel request.size request.n request.m request.d request.k budget self list.old }
+        ensures demand { refusal_of kernel request.size request.n request.m request.d request.k self (length list.old) ≡ Ok tt → Demand3 (size_of request.size) request.n request.m request.d request.k budget (state_for kernel self) list.old list.new (walked_by kernel result) }
     {
         let state = self.state_for(kernel);
-        if !kernel.may_walk(n, m, d, k) {
-            let reply = walk::refusal(state, size, n, m, d, k, list.len());
+        if !kernel.may_walk(request) {
+            let reply = walk::refusal(state, request, list.len());
             return Walked {
                 reply: barred(reply),
                 count: 0,
@@ -252,14 +207,12 @@ impl Shared {
                 shared: self,
             };
         }
-        let walked = walk::walk(state, size, n, m, d, k, list, budget);
-        let reply = walked.reply;
-        let next = walked.state;
+        let walked = walk::walk(state, request, list, budget);
         Walked {
-            reply,
+            reply: walked.reply,
             count: walked.count,
             visited: walked.visited,
-            shared: self.after(kernel, next),
+            shared: self.after(kernel, walked.state),
         }
     }
 }

@@ -6,7 +6,7 @@ use mathlib.Core.List.{List, [], ◌∷◌, ◌++◌, append_assoc, append-nil}
 use mathlib.Core.Path.{◌≡◌, refl, sym, ap, ap₂, ◌∙◌}
 use Prim.Native.Nat.{ℕ, suc, ◌+◌, ◌*◌, ◌≤◌, ◌<◌}
 use native.Mathlib.Omega.{arith}
-use lib.Dec.{eqb, lit<}
+use lib.Dec.{lit<}
 use lib.ListN.{length, take, drop, length-append, take-append-drop}
 use lib.Seq.{take_at, drop_at, drop-drop, length-take-le}
 use borrow.Author.Tests.{le-leb, eqb-true}
@@ -18,7 +18,7 @@ use Rattle.machine.specs.declared.Stepped.{Stepped}
 use Rattle.machine.specs.Step.{step_of}
 use Rattle.image.specs.Reading.{image_reply, state_of, words_of}
 use Rattle.octets.proofs.Bytes.{length-parts}
-use Rattle.replies.proofs.Replies.{number_done}
+use Rattle.replies.proofs.Replies.{number_done, done_number}
 use Rattle.image.proofs.Readings.{sound}
 use Rattle.report.specs.Lines.{word_line, end_line, image_line, after, placed}
 use Rattle.report.proofs.Digits.{length_most}
@@ -142,15 +142,15 @@ most_end l h = omega (arith, one_length l)
 
 -- a word's line and those after it
 most_word : (t : Stepped) (done w : ℕ) (ws : List ℕ) → done ≤ 4096 → length (text (lines_of t.state (suc done) ws)) ≤ 21 * length ws + 10
-    → length (text (word_line done w (number_of t.reply) t.state.flags ∷ pick (eqb (number_of t.reply) 0) (lines_of t.state (suc done) ws) (end_line done ∷ [])))
+    → length (text (word_line done w (number_of t.reply) t.state.flags ∷ pick (is_done t.reply) (lines_of t.state (suc done) ws) (end_line done ∷ [])))
     ≤ 21 * suc (length ws) + 10
-most_word t done w ws h m = cases (eqb (number_of t.reply) 0) refl
+most_word t done w ws h m = cases (is_done t.reply) refl
   where
-    cases : (b : Bool) → eqb (number_of t.reply) 0 ≡ b
+    cases : (b : Bool) → is_done t.reply ≡ b
         → length (text (word_line done w (number_of t.reply) t.state.flags ∷ pick b (lines_of t.state (suc done) ws) (end_line done ∷ []))) ≤ 21 * suc (length ws) + 10
     cases true e =
         most_on (word_line done w (number_of t.reply) t.state.flags) (lines_of t.state (suc done) ws) (length ws)
-        (done_most done w (number_of t.reply) t.state.flags h (eqb-true (number_of t.reply) 0 e)) m
+        (done_most done w (number_of t.reply) t.state.flags h (eqb-true (number_of t.reply) 0 (sym (done_number t.reply) ∙ e))) m
     cases false e =
         most_stop (word_line done w (number_of t.reply) t.state.flags) (end_line done) (length ws)
         (word_most done w (number_of t.reply) t.state.flags h (reply_small t.reply)) (end_most done h)
@@ -165,7 +165,7 @@ most s done (w ∷ ws) h = most_word (step_of s w) done w ws (omega arith) (most
 module _ (room : ℕ) (image : List ℕ) where
   few : is_done (image_reply room image) ≡ true → length (words_of image) ≤ 4096
   unfolding words_of
-  few e = rw length-parts (sound room image (number_done (image_reply room image) (eqb-true (number_of (image_reply room image)) 0 e))).few
+  few e = rw length-parts (sound room image (number_done (image_reply room image) (eqb-true (number_of (image_reply room image)) 0 (sym (done_number (image_reply room image)) ∙ e)))).few
 
   pub text_most : length (text (transcript_of room image)) ≤ 86026
   unfolding transcript_of

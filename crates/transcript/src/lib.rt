@@ -14,14 +14,10 @@ pub fn transcript(image: &[u8], words: &mut [u32], out: &mut [u8]) -> usize
     ensures out_after { out.new ≡ placed_all (transcript_of (length words.old) image.now) 0 out.old }
     ensures words_after { words.new ≡ list_after image.now words.old }
 {
-    let reading = image::read(image, words);
-    let reply = reading.reply;
-    if !reply.is_done() {
-        return report::image_line(reply.number(), 0, out);
+    match image::read(image, words) {
+        Err(refusal) => report::image_line(refusal.number(), 0, out),
+        Ok(reading) => word_lines(reading.state, &words[..reading.count], out),
     }
-    let state = reading.state;
-    let count = reading.count;
-    word_lines(state, &words[..count], out)
 }
 
 // The words stepped, over the state's parts.
@@ -31,24 +27,18 @@ fn word_lines(state: State, words: &[u32], out: &mut [u8]) -> usize
     ensures out_after { out.new ≡ placed_all (lines_of state 0 words.now) 0 out.old }
 {
     let settings = state.settings();
-    let f = state.flags;
-    let mut flags = registers::parts::bits_of_flags(f);
+    let mut flags = registers::parts::bits_of_flags(state.flags);
     let mut x = state.x;
-    let held = state.p;
-    let mut p = registers::parts::words_of(held);
-    let kept = state.counts;
-    let mut counts = registers::parts::numbers_of(kept);
+    let mut p = registers::parts::words_of(state.p);
+    let mut counts = registers::parts::numbers_of(state.counts);
     let mut at = 0;
-    let mut done = 0;
-    while done < words.len() {
-        let word = words[done];
+    for (done, &word) in words.iter().enumerate() {
         let reply = machine::engine::step(settings, &mut flags, &mut x, &mut p, &mut counts, word);
         let after = registers::parts::flags_of(flags);
-        at = report::word_line(done as u32, word, reply.number(), after, at, out);
-        if !reply.is_done() {
+        at = report::word_line(done as u32, word, replies::number(reply), after, at, out);
+        if reply.is_err() {
             return report::end_line(done as u32, at, out);
         }
-        done += 1;
     }
-    report::end_line(done as u32, at, out)
+    report::end_line(words.len() as u32, at, out)
 }

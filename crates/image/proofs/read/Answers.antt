@@ -1,23 +1,34 @@
 -- `read` meets its contract. Assumes nothing.
-use mathlib.Core.Bool.{true, false, not}
-use mathlib.Core.Path.{◌≡◌, ap}
-use Rattle.image.proofs.Readings.{read-refused, read_done, list_refused, list_done, fill_most, fill-room}
+use native.Mathlib.Omega.{arith}
+use mathlib.Core.Path.{sym}
+use lib.ListN.{length-take}
+use lib.Seq.{length-take-le}
+use Rattle.image.specs.Sections.{or_else}
+use Rattle.image.specs.Reading.{read_of, list_after}
+use Rattle.image.proofs.Readings.{read_done, list_done, fill_most, fill-room}
 use borrow.Author.Rules.{rules}
 use Rattle.image.proofs.read.Goals as goal
 
-pub returns-then-not-is_done : goal.returns-then-not-is_done
-returns-then-not-is_done c =
-    let h : not c.is_done.result ≡ true = ap not c.if-not-is_done.true in
-    record { value = search (rules, read-refused); words_after = search (rules, list_refused) }
+pub returns-in_err-image_reply : goal.returns-in_err-image_reply
+unfolding read_of list_after or_else
+returns-in_err-image_reply c = record { value = search rules; words_after = search rules }
+
+pub slice_bounds-fill-end : goal.slice_bounds-fill-end
+slice_bounds-fill-end c = fill-room _ c.args.words.now _ c.image_reply.ensures c.in_ok-image_reply.was _ _ c.start_of-rest.ensures c.count_of-count.ensures.value
+
+pub slice_bounds-fill-end-2 : goal.slice_bounds-fill-end-2
+slice_bounds-fill-end-2 c =
+    let r = fill-room _ c.args.words.now _ c.image_reply.ensures c.in_ok-image_reply.was _ _ c.start_of-rest.ensures c.count_of-count.ensures.value in
+    sym (length-take-le c.count_of-count.result c.args.words.now r)
 
 pub fill-requires : goal.fill-requires
-fill-requires c = let h : not c.is_done.result ≡ false = ap not c.if-not-is_done.false in (search (rules, fill_most), search (rules, fill-room))
+fill-requires c =
+    let m = fill_most _ c.args.words.now _ c.image_reply.ensures c.in_ok-image_reply.was _ _ c.start_of-rest.ensures c.count_of-count.ensures.value in
+    omega (arith, length-take c.count_of-count.result c.args.words.now)
 
 pub returns : goal.returns
 returns c =
-    let list = c.args.words.now in
-    let h : not c.is_done.result ≡ false = ap not c.if-not-is_done.false in
     record {
-      value = read_done _ list _ _ c.image_reply-reply.ensures c.is_done.ensures h _ _ c.start_of-rest.ensures c.count_of-count.ensures.value _ c.state_of-state.ensures;
-      words_after = list_done _ list _ _ c.image_reply-reply.ensures c.is_done.ensures h _ _ c.start_of-rest.ensures c.count_of-count.ensures.value _ _ c.after.ensures c.fill.ensures;
+      value = search (rules, read_done) depth 9;
+      words_after = list_done _ c.args.words.now _ c.image_reply.ensures c.in_ok-image_reply.was _ _ c.start_of-rest.ensures c.count_of-count.ensures.value _ _ c.after.ensures c.fill.ensures;
     }

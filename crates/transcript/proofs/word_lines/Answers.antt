@@ -1,7 +1,8 @@
 -- `word_lines` meets its contract. Assumes nothing.
 use mathlib.Core.Bool.{not}
 use mathlib.Core.List.{List}
-use mathlib.Core.Path.{◌≡◌, ap}
+use mathlib.Core.Path.{◌≡◌, sym, ap, ◌∙◌}
+use Rattle.report.specs.Lines.{end_line, after, placed}
 use Prim.Native.Nat.{ℕ}
 use native.Mathlib.Omega.{arith}
 use lib.ListN.{length}
@@ -20,10 +21,10 @@ whole : (h : At-loop-done) (end : ℕ) (last : List ℕ) → let a = h.args in
 whole h end last given =
     from_parts _ _ _ _ _ _ _ last end h.settings-settings.ensures h.bits_of_flags-flags.ensures h.words_of-p.ensures h.numbers_of-counts.ensures given
 
-pub returns-then-not-is_done : goal.returns-then-not-is_done
-returns-then-not-is_done c =
-    let r = whole (goal.at.returns-then-not-is_done c).At-loop-done _ _ (stopped _ _ _ _ _ _ _ c.loop-done.invariant.4 _ _ _ c.loop-done-test.true c.step-reply.ensures c.is_done.ensures _ _ _ _ c.number.ensures
-    c.flags_of-after.ensures c.word_line-at.ensures.value c.word_line-at.ensures.buffer_after _ _ (ap not c.if-not-is_done.true) c.end_line.ensures.value c.end_line.ensures.buffer_after) in
+pub returns-then-is_err : goal.returns-then-is_err
+returns-then-is_err c =
+    let r = whole (goal.at.returns-then-is_err c).At-loop-done _ _ (stopped _ _ _ _ _ _ _ c.loop-done.invariant.4 _ _ _ c.loop-done-test.true c.step-reply.ensures (sym c.is_err.ensures.negation) _ _ _ _ c.number.ensures
+    c.flags_of-after.ensures c.word_line-at.ensures.value c.word_line-at.ensures.buffer_after _ _ (ap (λ b. not (not b)) c.if-is_err.true) c.end_line.ensures.value c.end_line.ensures.buffer_after) in
     record { value = r.0; out_after = r.1 }
 
 pub loop-done-preserved : goal.loop-done-preserved
@@ -32,11 +33,14 @@ loop-done-preserved c = (
   search rules,
   search rules,
   search rules,
-  turned _ _ _ _ _ _ _ c.loop-done.invariant.4 _ _ _ c.loop-done-test.true c.step-reply.ensures c.is_done.ensures _ _ _ _ c.number.ensures
-      c.flags_of-after.ensures c.word_line-at.ensures.value c.word_line-at.ensures.buffer_after (ap not c.if-not-is_done.false),
+  turned _ _ _ _ _ _ _ c.loop-done.invariant.4 _ _ _ c.loop-done-test.true c.step-reply.ensures (sym c.is_err.ensures.negation) _ _ _ _ c.number.ensures
+      c.flags_of-after.ensures c.word_line-at.ensures.value c.word_line-at.ensures.buffer_after (ap (λ b. not (not b)) c.if-is_err.false),
 )
 
 pub returns : goal.returns
 returns c =
-    let r = whole (goal.at.returns c).At-loop-done _ _ (ended _ _ _ _ _ _ _ c.loop-done.invariant.4 _ _ (omega arith) c.end_line-2.ensures.value c.end_line-2.ensures.buffer_after) in
+    let l = c.loop-done in
+    let at_end : l.done ≡ length c.args.words.now = omega arith in
+    let r = whole (goal.at.returns c).At-loop-done _ _ (ended _ _ _ _ _ _ _ l.invariant.4 _ _ (omega arith)
+    (c.end_line-2.ensures.value ∙ ap (λ n. after (end_line n) l.at (length l.out)) (sym at_end)) (c.end_line-2.ensures.buffer_after ∙ ap (λ n. placed (end_line n) l.at l.out) (sym at_end))) in
     record { value = r.0; out_after = r.1 }
