@@ -83,10 +83,7 @@ pub fn refusal(state: State, request: Request, places: usize) -> Reply
     // X is read where it stands: `read_x` takes the state by value, and it would be copied.
     let start = registers::parts::x_at(&state.x, u64::from(request.n));
     let limit = registers::parts::x_at(&state.x, u64::from(request.m));
-    if limit <= start {
-        return Ok(());
-    }
-    if (places as u64) < limit - start {
+    if (places as u64) < limit.saturating_sub(start) {
         return Err(Refusal::ListTooShort);
     }
     Ok(())
