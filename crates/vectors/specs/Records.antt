@@ -1,6 +1,7 @@
 -- What a stored record says, and when the library's answer agrees with it. `rest` is a record without its kind and its length.
-use Rattle.replies.specs.Reply.{number_of}
-use Rattle.std.specs.Prelude.{ℕ, ◌+◌, ◌*◌, List, [], ◌≡◌, eqb, length, take, drop, get_or, replicate}
+use Rattle.replies.specs.Reply.{refusal_number, number_of}
+use Rattle.replies.specs.declared.Refusal.{Refusal}
+use Rattle.std.specs.Prelude.{ℕ, ◌+◌, ◌*◌, ◌≤◌, List, [], ◌≡◌, eqb, length, take, drop, get_or, replicate, Result, Ok, Err}
 use Rattle.predicates.specs.PredTest.{flags_of}
 use Rattle.registers.specs.declared.State.{State}
 use Rattle.machine.specs.declared.Ran.{Ran}
@@ -13,7 +14,10 @@ use Rattle.fold.specs.Fold.{longest, fold_of, fold_reply}
 pub use Rattle.octets.specs.Bytes.{number_at}
 use Rattle.octets.specs.Bytes.{value, parts}
 use Rattle.image.specs.Image.{image_of}
+use Rattle.image.specs.declared.Reading.{Reading}
 use Rattle.image.specs.Reading.{state_of, words_of, read_of}
+use Rattle.vectors.specs.declared.Kind.{Kind}
+use Rattle.vectors.specs.declared.Kind.TheVariants.{Run, Image, Walk, Step, Title}
 
 -- ---- a block: a length in four bytes, and then so many bytes
 
@@ -25,8 +29,20 @@ past_block bs = drop (value (take 4 bs)) (drop 4 bs)
 
 -- ---- an image that is read without a fault
 
+-- the reply's number: 0, or the refusal's
+abbrev pub reply_in : {A : Type 0} → Result A Refusal → ℕ
+reply_in (Ok _) = 0
+reply_in (Err r) = refusal_number r
+
 abbrev pub Whole : List ℕ → Type 0
-Whole image = number_of (read_of 4096 image).reply ≡ 0
+Whole image = reply_in (read_of 4096 image) ≡ 0
+
+-- a reading of one: the state, and the words at the front of a list
+pub record Reads (image list : List ℕ) (r : Reading) : Type 0 where
+  pub whole : Whole image
+  pub state : r.state ≡ state_of image
+  pub room : r.count ≤ length list
+  pub words : take r.count list ≡ words_of image
 
 -- ---- a run: an image; reply (1), refused (1), done (4), the image after
 
@@ -43,7 +59,7 @@ pub record RunAgrees (rest : List ℕ) : Type 0 where
 -- ---- an image: reply (1), the image, the image that it is written back as
 
 pub record ImageAgrees (rest : List ℕ) : Type 0 where
-  pub reply : number_of (read_of 4096 (block (drop 1 rest))).reply ≡ get_or rest 0 0
+  pub reply : reply_in (read_of 4096 (block (drop 1 rest))) ≡ get_or rest 0 0
   pub again : Whole (block (drop 1 rest)) → image_of (state_of (block (drop 1 rest))) (words_of (block (drop 1 rest))) ≡ block (past_block (drop 1 rest))
 
 -- ---- a walk: an image; size, n, m, d, k (1 each), places (4), budget (8), reply (1), count (8), visited (4), the image after, the list after
@@ -97,6 +113,13 @@ abbrev pub TitleAgrees : List ℕ → Type 0
 TitleAgrees rest = TitleFolds rest (number_at 8 4 rest)
 
 -- ---- a record, by its kind
+
+abbrev pub kind_number : Kind → ℕ
+kind_number Run = 1
+kind_number Image = 2
+kind_number Walk = 3
+kind_number Step = 4
+kind_number Title = 5
 
 pub record Agrees (kind : ℕ) (rest : List ℕ) : Type 0 where
   pub run : kind ≡ 1 → RunAgrees rest

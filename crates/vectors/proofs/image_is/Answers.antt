@@ -5,9 +5,8 @@ use Rattle.std.proofs.lemmas.Slice.Eq.{slice_eq-Decides}
 use Rattle.vectors.proofs.Answers.{written}
 use Rattle.vectors.proofs.image_is.Goals as goal
 
-pub returns : goal.returns
-returns c =
-    let w = c.write-written in
+pub returns-in-Ok : goal.returns-in-Ok
+returns-in-Ok c =
     λ same.
-    sym (written _ _ _ _ w.ensures.value (sym c.number.ensures ∙ c.if-number-ne0.false) _ w.ensures.image_after) ∙ sym c.first.ensures
+    sym (written _ _ _ _ _ c.in-Ok.ensures.value c.in-Ok.ensures.image_after) ∙ sym c.first.ensures
     ∙ (slice_eq-Decides Decides-eqb _ _ _ c.eq.ensures).0 same

@@ -1,7 +1,7 @@
--- `list_is` meets its contract: the places passed are those of the bytes. Assumes nothing.
+-- `list_is` meets its contract. Assumes nothing.
 use native.Mathlib.Omega.{arith}
 use Rattle.vectors.proofs.Answers.{all_parts}
 use Rattle.vectors.proofs.list_is.Goals as goal
 
 pub returns : goal.returns
-returns c = λ e. all_parts 8 _ _ (λ i h. c.loop-i.invariant.1 i (omega arith))
+returns c = λ e. all_parts 8 _ _ (λ i h. c.loop-i.invariant i (omega arith))

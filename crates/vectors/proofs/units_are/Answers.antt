@@ -1,7 +1,7 @@
--- `units_are` meets its contract: the units passed are those of the bytes. Assumes nothing.
+-- `units_are` meets its contract. Assumes nothing.
 use native.Mathlib.Omega.{arith}
 use Rattle.vectors.proofs.Answers.{all_parts}
 use Rattle.vectors.proofs.units_are.Goals as goal
 
 pub returns : goal.returns
-returns c = λ e. all_parts 2 _ _ (λ i h. c.loop-i.invariant.1 i (omega arith))
+returns c = λ e. all_parts 2 _ _ (λ i h. c.loop-i.invariant i (omega arith))
