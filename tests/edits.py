@@ -59,11 +59,17 @@ def functions(source, text):
     module = os.path.basename(source)[: -len(".rt")]
     path = [] if module in ("lib", "main") else [module]
     found, kind, start, indent, name, at = [], None, None, "", "", 0
+    declared = False  # within a trait, whose methods have no bodies
     for line in text.split("\n"):
-        opened = re.match(r"impl (\w+)", line)
+        opened = re.match(r"impl (?:(\w+) for )?(\w+)", line)
         begun = re.match(r"(\s*)(?:pub )?(?:extern \"C\" )?fn (\w+)", line)
         if opened:
-            kind = opened.group(1)
+            trait, of = opened.groups()
+            kind = of[0].upper() + of[1:] + (trait or "")
+        elif re.match(r"(?:pub )?trait ", line):
+            declared = True
+        elif declared:
+            declared = line != "}"
         elif begun and start is None:
             start, indent = at, begun.group(1)
             name = "::".join(path + ([kind] if indent else []) + [begun.group(2)])

@@ -85,9 +85,6 @@ number-none f at (suc n) h =
     (number-none f (suc at) n (λ i l. ap f (suc-add at i ∙ sym (add-suc at i)) ∙ h (suc i) (omega arith)))
     (ap digit (ap f (sym (add-zero at)) ∙ h 0 (omega arith)))
 
-pub none_number : (f : ℕ → Bool) (at n : ℕ) → number f at n ≡ 0 → (i : ℕ) → i < n → f (at + i) ≡ false
-none_number f at n e i h = sym (test_bit-number f at n i h) ∙ ap (λ (w : ℕ). test_bit w i) e ∙ test_bit-zero i
-
 -- bits that are not set above the first n change nothing
 pub number-padded : (f : ℕ → Bool) (at n m : ℕ) → n ≤ m → ((i : ℕ) → n ≤ i → i < m → f (at + i) ≡ false) → number f at m ≡ number f at n
 unfolding number
@@ -188,19 +185,17 @@ ones_shifted k n h =
 
 -- ---- the bits that are not set
 
-number-ones : (at n : ℕ) → number (λ b. true) at n ≡ 2 ^ n - 1
+flipped : (b : Bool) → digit (not b) + digit b ≡ 1
+flipped true = refl
+flipped false = refl
+
+with-not : (f : ℕ → Bool) (at n : ℕ) → number (λ i. not (f i)) at n + number f at n + 1 ≡ 2 ^ n
 unfolding number
-number-ones at zero = refl
-number-ones at (suc n) = rw (number-ones (suc at) n, pow-suc 2 n) (omega (arith, pow_pos n))
+with-not f at zero = refl
+with-not f at (suc n) = rw (pow-suc 2 n) (omega (arith, with-not f (suc at) n, flipped (f at)))
 
-differs_true : (b : Bool) → not b ≡ not (beq b true)
-differs_true true = refl
-differs_true false = refl
-
-pub number-not : (f : ℕ → Bool) (at n : ℕ) → number (λ i. not (f i)) at n ≡ bit_xor (number f at n) (2 ^ n - 1)
-number-not f at n =
-    number_cong (λ i. not (f i)) (λ i. not (beq (f i) true)) at at n (λ i l. differs_true (f (at + i)))
-    ∙ number-xor f (λ b. true) at n ∙ ap (bit_xor (number f at n)) (number-ones at n)
+pub number-not : (f : ℕ → Bool) (at n : ℕ) → number (λ i. not (f i)) at n ≡ 2 ^ n - 1 - number f at n
+number-not f at n = omega (arith, with-not f at n)
 
 -- ---- one bit alone
 

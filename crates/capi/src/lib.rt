@@ -21,6 +21,7 @@ use registers::parts::Settings;
 use registers::{COUNTED, PREDICATES, State};
 use replies::Reply;
 use shared::{Kernel, Shared};
+use walk::Request;
 
 #[repr(C)]
 #[derive(Clone, Copy)]
@@ -160,7 +161,8 @@ pub extern "C" fn plokamyr_walk(
     ensures list_after { list.new ≡ (whole_of size n m d k budget state list.old).list }
     ensures demand3 { refusal_of size n m d k state (length list.old) ≡ Ok tt → Demand3 (size_of size) n m d k budget state list.old list.new (walk_of size n m d k budget state list.old) }
 {
-    let walked = walk::walk(state, size, n, m, d, k, list, budget);
+    let request = Request { size, n, m, d, k };
+    let walked = walk::walk(state, request, list, budget);
     Walked {
         reply: number(walked.reply),
         count: walked.count,
@@ -209,7 +211,8 @@ pub extern "C" fn plokamyr_shared_walk(
     ensures demand3 { Kernels.refusal_of (Kernels.kernel_of second) size n m d k shared (length list.old) ≡ Ok tt → Demand3 (size_of size) n m d k budget (Kernels.state_for (Kernels.kernel_of second) shared) list.old list.new (Kernels.walked_by (Kernels.kernel_of second) (Kernels.walk_of (Kernels.kernel_of second) size n m d k budget shared list.old)) }
 {
     let kernel = Kernel::of(second);
-    let answer = shared.walk(kernel, size, n, m, d, k, list, budget);
+    let request = Request { size, n, m, d, k };
+    let answer = shared.walk(kernel, request, list, budget);
     SharedWalked {
         reply: number(answer.reply),
         count: answer.count,

@@ -77,14 +77,13 @@ abbrev pub FoldAnswers : ℕ → List ℕ → List ℕ → Reply → Type 0
 FoldAnswers vl t last r = (r ≡ fold_reply vl (length t)) × ((last ≡ fold_of vl (replicate longest 0) t) × (r ≡ Ok tt → last ≡ map fold_unit t))
 
 -- with 4,096 places
-pub long_list : (vl : ℕ) (t last : List ℕ) (r : Walked) → r ≡ title_answer vl (length t) (replicate longest 0) → last ≡ fold_of vl (replicate longest 0) t → FoldAnswers vl t last r.reply
+pub long_list : (vl : ℕ) (t last : List ℕ) (r : Reply) → r ≡ (title_answer vl (length t) (replicate longest 0)).reply → last ≡ fold_of vl (replicate longest 0) t → FoldAnswers vl t last r
 long_list vl t last r er el =
-    let told : r.reply ≡ fold_reply vl (length t) = ap (λ (w : Walked). w.reply) er ∙ (lent_folds vl t).reply in
+    let told : r ≡ fold_reply vl (length t) = er ∙ (lent_folds vl t).reply in
     (told, (el, λ e. el ∙ fold_table vl t (sym told ∙ e)))
 
 -- with fewer, for a title that has a place for each unit
-pub short_list : (vl n : ℕ) (t last : List ℕ) (r : Walked) → n ≤ longest → length t ≤ n → r ≡ title_answer vl (length t) (replicate n 0) → last ≡ fold_of vl (replicate n 0) t → FoldAnswers vl t last r.reply
+pub short_list : (vl n : ℕ) (t last : List ℕ) (r : Reply) → n ≤ longest → length t ≤ n → r ≡ (title_answer vl (length t) (replicate n 0)).reply → last ≡ fold_of vl (replicate n 0) t → FoldAnswers vl t last r
 short_list vl n t last r h fits er el =
     let (reply, title) = fold_any_list vl (replicate n 0) t (omega arith) (rw (length-replicate {A = ℕ} n 0) fits) in
-    let told : r.reply ≡ fold_reply vl (length t) = ap (λ (w : Walked). w.reply) er ∙ reply ∙ (lent_folds vl t).reply in
-    (told, (el ∙ title, λ e. el ∙ title ∙ fold_table vl t (sym told ∙ e)))
+    long_list vl t last r (er ∙ reply) (el ∙ title)

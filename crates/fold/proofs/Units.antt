@@ -39,10 +39,10 @@ above_z u h l =
 
 -- C0 to FF, by a list with a place for each
 pub lettered : (letters : List ℕ) → some (λ k. not (eqb (get_or letters k 0) (fold_unit (192 + k)))) 64 ≡ false
-    → (u : ℕ) → 192 ≤ u → u ≤ 255 → get_or letters (u - 192) 0 ≡ fold_unit u
-lettered letters e u h l =
-    let same : 192 + (u - 192) ≡ u = omega arith in
-    alike (λ k. get_or letters k 0) (λ k. fold_unit (192 + k)) 64 e (u - 192) (omega arith) ∙ ap fold_unit same
+    → (u i : ℕ) → i ≡ u - 192 → 192 ≤ u → u ≤ 255 → get_or letters i 0 ≡ fold_unit u
+lettered letters e u i at h l =
+    let same : 192 + i ≡ u = omega arith in
+    alike (λ k. get_or letters k 0) (λ k. fold_unit (192 + k)) 64 e i (omega arith) ∙ ap fold_unit same
 
 -- the last unit that a row has
 abbrev end : List Row → ℕ

@@ -2,15 +2,15 @@
 // A vector length that is not allowed is refused with 4, then a title of more than 4,096 units with 11; a refusal leaves the title as it was.
 #![tactic(auto)]
 
-ghost use Rattle.std.specs.Prelude.{map, ◌≡◌, length, replicate, Ok};
+ghost use Rattle.std.specs.Prelude.{map, ◌≡◌, ◌≤◌, length, replicate, Ok};
 ghost use Rattle.fold.specs.Table.{fold_unit};
 ghost use Rattle.fold.specs.Fold.{folded_one, folded_first, title_state, title_answer, title_list, longest, fold_of, fold_reply};
 
 use predicates::{Flags, Predicate};
-use registers::State;
+use registers::{COUNTED, PREDICATES, State, X_REGISTERS};
 use replies::Reply;
 use tally::Counts;
-use walk::Walked;
+use walk::{Request, Walked};
 
 // What C0 to FF become.
 const LETTERS: [u16; 64] = [
@@ -84,40 +84,30 @@ const LETTERS: [u16; 64] = [
 pub fn fold_unit(u: u16) -> u16
     ensures { result ≡ fold_unit u }
 {
-    if u < 0x41 {
-        return u;
+    match u {
+        0x41..=0x5a => u + 32,
+        0xc0..=0xff => LETTERS[usize::from(u - 0xc0)],
+        _ => u,
     }
-    if u <= 0x5a {
-        return u + 32;
-    }
-    if u < 0xc0 {
-        return u;
-    }
-    if 0xff < u {
-        return u;
-    }
-    LETTERS[(u - 0xc0) as usize]
 }
 
 // The unit at a position; a position past the end has none.
 fn fold_one(title: &mut [u16], at: u64)
     ensures { title.new ≡ folded_one at title.old }
 {
-    if title.len() as u64 <= at {
-        return;
-    }
+    // Not `get_mut`: once its borrow is over, no more is known of a slice than its length.
     let i = at as usize;
-    title[i] = fold_unit(title[i]);
+    if i < title.len() {
+        title[i] = fold_unit(title[i]);
+    }
 }
 
 // The units at these positions, one after the other.
 fn fold_each(title: &mut [u16], positions: &[u64])
     ensures { title.new ≡ folded_first positions.now (length positions.now) title.old }
 {
-    let mut i = 0;
-    while i < positions.len() {
-        fold_one(title, positions[i]);
-        i += 1;
+    for &at in positions {
+        fold_one(title, at);
     }
 }
 
@@ -125,7 +115,7 @@ fn fold_each(title: &mut [u16], positions: &[u64])
 fn title_state(vl: u64, units: u64) -> State
     ensures { result ≡ title_state vl units }
 {
-    let mut x = [0u64; 31];
+    let mut x = [0u64; X_REGISTERS];
     x[1] = units;
     // Not `State::new`, which would count the true elements of sixteen predicates that have none.
     State {
@@ -134,13 +124,28 @@ fn title_state(vl: u64, units: u64) -> State
         access: true,
         flags: Flags::of(0),
         x,
-        p: [Predicate::none(); 17],
-        counts: [Counts::none(); 16],
+        p: [Predicate::none(); PREDICATES],
+        counts: [Counts::none(); COUNTED],
     }
 }
 
+// The most units of a title.
+const LONGEST: usize = 4096;
+
+// Up to so many units a title is short.
+const SHORT: usize = 64;
+
 // As many instructions as 4,096 units at VL 128 take, the most of all: 4,096 + 3 * 512 + 2.
 const BUDGET: u64 = 5634;
+
+// H elements, from X0 to X1, lanes P0, cursor P1.
+const REQUEST: Request = Request {
+    size: 1,
+    n: 0,
+    m: 1,
+    d: 0,
+    k: 1,
+};
 
 // Folds a title by a walk with a lent list, and hands back what the walk answers. The title is indexed by the positions in the list alone.
 pub fn fold_in(title: &mut [u16], vl: u64, list: &mut [u64]) -> Walked
@@ -149,11 +154,21 @@ pub fn fold_in(title: &mut [u16], vl: u64, list: &mut [u64]) -> Walked
     ensures units { title.new ≡ fold_of vl list.old title.old }
 {
     let state = title_state(vl, title.len() as u64);
-    let walked = walk::walk(state, 1, 0, 1, 0, 1, list, BUDGET);
+    let walked = walk::walk(state, REQUEST, list, BUDGET);
     if walked.reply.is_ok() {
         fold_each(title, &list[..walked.visited]);
     }
     walked
+}
+
+// Folds a title with a list of N places.
+fn fold_listed<const N: usize>(title: &mut [u16], vl: u64) -> Reply
+    requires { N ≤ longest }
+    ensures answer { result ≡ (title_answer vl (length title.old) (replicate N 0)).reply }
+    ensures units { title.new ≡ fold_of vl (replicate N 0) title.old }
+{
+    let mut list = [0u64; N];
+    fold_in(title, vl, &mut list).reply
 }
 
 // Folds a title at a vector length.
@@ -163,12 +178,9 @@ pub fn fold(title: &mut [u16], vl: u64) -> Reply
     ensures table { result ≡ Ok tt → title.new ≡ map fold_unit title.old }
 {
     // A short list for a short title: to clear the long one takes two thirds of the time in which 20 units are folded.
-    if title.len() <= 64 {
-        let mut list = [0u64; 64];
-        let walked = fold_in(title, vl, &mut list);
-        return walked.reply;
+    if title.len() <= SHORT {
+        fold_listed::<SHORT>(title, vl)
+    } else {
+        fold_listed::<LONGEST>(title, vl)
     }
-    let mut list = [0u64; 4096];
-    let walked = fold_in(title, vl, &mut list);
-    walked.reply
 }

@@ -1,16 +1,17 @@
 -- Laws of a predicate's bytes, over their number. Assumes nothing.
 use mathlib.Core.Bool.{Bool, false}
-use mathlib.Core.List.{List, [], ◌∷◌, ◌++◌}
-use mathlib.Core.Path.{◌≡◌, refl, sym, ap, ap₂, ◌∙◌}
+use mathlib.Core.List.{List, [], ◌∷◌, ◌++◌, append_assoc}
+use mathlib.Core.Path.{◌≡◌, refl, sym, ap, ◌∙◌}
 use Prim.Native.Nat.{ℕ, zero, suc, ◌+◌, ◌-◌, ◌*◌, ◌/◌, ◌%◌, ◌^◌, ◌≤◌, ◌<◌, min}
 use native.Mathlib.Decide.{dec_le, dec_lt}
-use native.Mathlib.Nat.{suc-add, mul_assoc, pow-suc, div-one, div-lt_iff_lt-mul, zero-div, zero-mod, mod-one}
+use native.Mathlib.Nat.{suc-add, mul_assoc, pow-suc, div-one, div-div-eq-div-mul, div-lt_iff_lt-mul, zero-div, zero-mod, mod-one}
 use native.Mathlib.Omega.{arith}
 use lib.Arith.{digits_div, digits_mod}
 use lib.Dec.{lit<}
-use lib.ListN.{length, take, drop}
+use lib.ListN.{length, take, drop, get_or, length-drop}
 use lib.Pow.{pow-add, mod-pow-add, shr-shr}
-use lib.Seq.{sets}
+use lib.Seq.{sets, sets-eq, length-take-le, drop-drop}
+use borrow.Rule.Slice.PartMut.{put_mid, same_len_mid}
 use borrow.Author.Tests.{le-leb, lt-leb}
 use Rattle.bits.specs.Bits.{test_bit, number}
 use Rattle.bits.proofs.Bits.{number_lt, number_cong, number-test_bit, number-whole, test_bit-number}
@@ -21,9 +22,11 @@ use Rattle.predicates.specs.Predicate.{bit_at, pack, has_bit_from}
 use Rattle.predicates.specs.Words.{Words}
 use Rattle.predicates.proofs.Words.{word, word_bits, pack-bit, pack_bits, pack_cong, four_words}
 use Rattle.octets.specs.Bytes.{le, value, number_at, AreBytes}
+use Rattle.std.specs.Int.{to_le_bytes}
+use mir.Syntax.{w64}
 use Rattle.image.specs.Image.{predicate_bytes}
 use Rattle.image.specs.Reading.{predicate_of}
-use Rattle.octets.proofs.Bytes.{length-le, value-le, value-below, le-value-at, bytes_drop, sets_append}
+use Rattle.octets.proofs.Bytes.{length-le, value-le, value-below, le-value-at, bytes_drop, sets_append, sets_all}
 
 -- k bytes have 8 k bits
 pub byte_bits : (k : ℕ) → 256 ^ k ≡ 2 ^ (8 * k)
@@ -90,6 +93,19 @@ le-append (suc a) b x y h =
     let q : x / 256 < 256 ^ a = (div-lt_iff_lt-mul (lit< tt)).1 (rw pow-suc at h) in
     rw (z, suc-add, m, d, le-append a b (x / 256) y q)
 
+-- the first bytes of the eight that a word has
+pub low_bytes : (k n : ℕ) (bs : List ℕ) → k ≤ 8 → bs ≡ to_le_bytes w64 n → take k bs ≡ le k n
+unfolding le
+low_bytes k n bs h e = ap (take k) (e ∙ sym eight) ∙ first k 8 n h
+  where
+    first : (k m x : ℕ) → k ≤ m → take k (le m x) ≡ le k x
+    first zero m x h = refl
+    first (suc k) zero x h = absurd (omega arith)
+    first (suc k) (suc m) x h = ap (λ (l : List ℕ). x % 256 ∷ l) (first k m (x / 256) (omega arith))
+
+    eight : le 8 n ≡ to_le_bytes w64 n
+    eight = simp div-div-eq-div-mul
+
 -- n bytes of bits from `at` on: fewer than a word, or a word and the rest
 few_bytes : (f : ℕ → Bool) (at n : ℕ) → n ≤ 8 → le n (number f at (8 * n)) ≡ le n (number f at 64)
 few_bytes f at n h =
@@ -104,26 +120,34 @@ more_bytes f at n h =
     ap (λ (k : ℕ). le n (number f at k)) d ∙ ap (λ (k : ℕ). le k (number f at (64 + 8 * (n - 8)))) e
     ∙ ap (le (8 + (n - 8))) (number-add f at 64 (8 * (n - 8))) ∙ le-append 8 (n - 8) (number f at 64) (number f (at + 64) (8 * (n - 8))) (number_lt f at 64)
 
+-- a list stored by lending the n places from `at` on: g of k
+pub put_part : (g : ℕ → List ℕ) (l new : List ℕ) (at n k : ℕ) → n ≡ k → at + k ≤ length l → new ≡ g (length (take n (drop at l))) → length new ≡ length (take n (drop at l))
+    → (put_mid at n l new ≡ sets l at (g k)) × (length (g k) ≡ k) × (length (put_mid at n l new) ≡ length l)
+put_part g l new at n k e h en el =
+    let m : length (take n (drop at l)) ≡ k = ap (λ (i : ℕ). length (take i (drop at l))) e ∙ length-take-le k (drop at l) (omega (arith, length-drop at l)) in
+    let v : new ≡ g k = en ∙ ap g m in
+    let w : length new ≡ k = el ∙ m in
+    (rw (e, drop-drop, ← v, sets-eq new l at (omega arith), w, append_assoc), sym (ap length v) ∙ w, same_len_mid at n l new el)
+
 -- ---- the loop that writes a predicate word by word: what is left to write
 
 abbrev pub bytes_from : ℕ → Predicate → ℕ → List ℕ
 bytes_from size p j = le (size - j * 8) (number (bit_at p) (j * 64) (8 * (size - j * 8)))
 
-pub words_start : (size : ℕ) (p : Predicate) (l : List ℕ) (at : ℕ) → sets l (at + 0 * 8) (bytes_from size p 0) ≡ sets l at (predicate_bytes size p)
+pub words_start : (size : ℕ) (p : Predicate) (l : List ℕ) → length l ≡ size → sets l (0 * 8) (bytes_from size p 0) ≡ predicate_bytes size p
 unfolding predicate_bytes
-words_start size p l at =
-    let a : at + 0 * 8 ≡ at = omega arith in
+words_start size p l e =
     let n : size - 0 * 8 ≡ size = omega arith in
-    ap₂ (λ (i k : ℕ). sets l i (le k (number (bit_at p) 0 (8 * k)))) a n
+    ap (λ (k : ℕ). sets l 0 (le k (number (bit_at p) 0 (8 * k)))) n ∙ sets_all l (le size (number (bit_at p) 0 (8 * size))) size e (length-le size (number (bit_at p) 0 (8 * size)))
 
-pub words_end : (size : ℕ) (p : Predicate) (l : List ℕ) (at j : ℕ) → size ≤ j * 8 → sets l (at + j * 8) (bytes_from size p j) ≡ l
+pub words_end : (size : ℕ) (p : Predicate) (l : List ℕ) (j : ℕ) → size ≤ j * 8 → sets l (j * 8) (bytes_from size p j) ≡ l
 unfolding le
-words_end size p l at j h = let e : size - j * 8 ≡ 0 = omega arith in rw e
+words_end size p l j h = let e : size - j * 8 ≡ 0 = omega arith in rw e
 
-pub words_turn : (size : ℕ) (p : Predicate) (l m : List ℕ) (at j n : ℕ) → Words p → j * 8 < size → n ≡ min (size - j * 8) 8 → m ≡ sets l (at + j * 8) (le n (word p j))
-    → sets m (at + (j + 1) * 8) (bytes_from size p (j + 1)) ≡ sets l (at + j * 8) (bytes_from size p j)
+words_turn : (size : ℕ) (p : Predicate) (l m : List ℕ) (j n : ℕ) → Words p → n ≡ min (size - j * 8) 8 → m ≡ sets l (j * 8) (le n (word p j))
+    → sets m ((j + 1) * 8) (bytes_from size p (j + 1)) ≡ sets l (j * 8) (bytes_from size p j)
 unfolding le
-words_turn size p l m at j n ok h en em =
+words_turn size p l m j n ok en em =
     elim (dec_le (size - j * 8) 8) [
       | yes k ↦
           let a : min (size - j * 8) 8 ≡ size - j * 8 = omega arith in
@@ -133,10 +157,25 @@ words_turn size p l m at j n ok h en em =
           let a : min (size - j * 8) 8 ≡ 8 = omega arith in
           let z : size - (j + 1) * 8 ≡ size - j * 8 - 8 = omega arith in
           let i : (j + 1) * 64 ≡ j * 64 + 64 = omega arith in
-          let e : at + (j + 1) * 8 ≡ at + j * 8 + length (le 8 (word p j)) = rw (length-le 8 (word p j)) (omega arith) in
+          let e : (j + 1) * 8 ≡ j * 8 + length (le 8 (word p j)) = rw (length-le 8 (word p j)) (omega arith) in
           rw (em, en, a, z, i, e, more_bytes (bit_at p) (j * 64) (size - j * 8) (omega arith), word_bits p ok j)
-          (sym (sets_append l (at + j * 8) (le 8 (word p j)) (le (size - j * 8 - 8) (number (bit_at p) (j * 64 + 64) (8 * (size - j * 8 - 8))))))
+          (sym (sets_append l (j * 8) (le 8 (word p j)) (le (size - j * 8 - 8) (number (bit_at p) (j * 64 + 64) (8 * (size - j * 8 - 8))))))
     ]
+
+-- a turn, where the bytes from `at` to `end` are lent to the word
+pub lent_turn : (size : ℕ) (p : Predicate) (l new : List ℕ) (j at end : ℕ) → Words p → length l ≡ size → at ≡ min (j * 8) size → end ≡ min (at + 8) size
+    → new ≡ le (length (take (end - at) (drop at l))) (word p j) → sets (put_mid at (end - at) l new) ((j + 1) * 8) (bytes_from size p (j + 1)) ≡ sets l (j * 8) (bytes_from size p j)
+unfolding le
+lent_turn size p l new j at end ok el ea ee en =
+    let n : end - at ≡ min (size - j * 8) 8 = omega arith in
+    let m = put_part (λ k. le k (word p j)) l new at (end - at) (min (size - j * 8) 8) n (omega arith) en (ap length en ∙ length-le (length (take (end - at) (drop at l))) (word p j)) in
+    elim (dec_lt (j * 8) size) [
+      | yes h ↦ let a : at ≡ j * 8 = omega arith in words_turn size p l _ j (min (size - j * 8) 8) ok refl (m.0 ∙ ap (λ (i : ℕ). sets l i (le (min (size - j * 8) 8) (word p j))) a)
+      | no h ↦ words_end size p _ (j + 1) (omega arith) ∙ m.0 ∙ none (min (size - j * 8) 8) (omega arith) ∙ sym (words_end size p l j (omega arith))
+    ]
+  where
+    none : (k : ℕ) → k ≡ 0 → sets l at (le k (word p j)) ≡ l
+    none k e = rw e
 
 pub length_bytes : (k : ℕ) (p : Predicate) → length (predicate_bytes k p) ≡ k
 unfolding predicate_bytes
@@ -177,9 +216,13 @@ predicate_within k bs h b =
     ])
 
 -- four words read are the predicate
-pub from_words : (bs : List ℕ) (a b c d : ℕ) → AreBytes bs → a ≡ number_at 0 8 bs → b ≡ number_at 8 8 bs → c ≡ number_at 16 8 bs → d ≡ number_at 24 8 bs
-    → ◌≡◌ {A = Predicate} (record { words = a ∷ b ∷ c ∷ d ∷ [] }) (predicate_of bs)
+pub from_words : (bs ws : List ℕ) → AreBytes bs → length ws ≡ 4 → ((i : ℕ) → i < 4 → get_or ws i 0 ≡ number_at (i * 8) 8 bs) → ◌≡◌ {A = Predicate} (record { words = ws }) (predicate_of bs)
 unfolding predicate_of
-from_words bs a b c d h ea eb ec ed =
+from_words bs (a ∷ b ∷ c ∷ d ∷ []) h e each =
     let w : (at : ℕ) → value (take 8 (drop at bs)) ≡ number (test_bit (value bs)) (8 * at) 64 = λ at. word_of bs at h (bytes_drop at bs h) in
-    four_words (test_bit (value bs)) a b c d (ea ∙ w 0) (eb ∙ w 8) (ec ∙ w 16) (ed ∙ w 24)
+    four_words (test_bit (value bs)) a b c d (each 0 (lit< tt) ∙ w 0) (each 1 (lit< tt) ∙ w 8) (each 2 (lit< tt) ∙ w 16) (each 3 (lit< tt) ∙ w 24)
+from_words bs [] h e each = absurd (omega arith)
+from_words bs (a ∷ []) h e each = absurd (omega arith)
+from_words bs (a ∷ b ∷ []) h e each = absurd (omega arith)
+from_words bs (a ∷ b ∷ c ∷ []) h e each = absurd (omega arith)
+from_words bs (a ∷ b ∷ c ∷ d ∷ x ∷ ws) h e each = absurd (omega arith)

@@ -1,26 +1,28 @@
 -- What a reading answers, and what an image has that is read without a fault. Assumes nothing.
 use Rattle.replies.specs.Reply.{Reply}
 use Rattle.std.specs.Prelude.{Ok, Err}
-use mathlib.Core.Bool.{Bool, true, false}
+use mathlib.Core.Bool.{true, false}
 use mathlib.Core.List.{List, [], ◌∷◌, ◌++◌}
 use mathlib.Core.Path.{◌≡◌, refl, sym, ap, ap₂, ◌∙◌, subst}
-use Prim.Native.Nat.{ℕ, zero, suc, ◌/◌, ◌≤◌, ◌<◌}
+use Prim.Native.Nat.{ℕ, zero, suc, ◌+◌, ◌*◌, ◌/◌, ◌≤◌, ◌<◌}
 use native.Mathlib.Decide.{dec_lt}
 use native.Mathlib.Omega.{arith}
-use lib.Dec.{ltb, eqb, lit<}
-use lib.ListN.{length, take, get_or, replicate}
-use lib.Seq.{sets, sets-eq, get_or-append_seam}
-use borrow.Author.Tests.{lt-ltb, le-ltb, ltb-false, ne_eqb}
-use Rattle.octets.specs.Bytes.{value, parts}
-use Rattle.octets.proofs.Bytes.{sets_over, length-parts}
-use Rattle.predicates.specs.declared.Flags.{Flags}
+use lib.Dec.{ltb, lit<}
+use lib.ListN.{length, take, drop, get_or}
+use Rattle.std.proofs.lemmas.List.{ext_get_or}
+use Rattle.std.specs.Array.{IsFromFnResult, IsFromFnResultFrom}
+use denote.Param.Members.{Mut, Called}
+use lib.Seq.{take_all, take-suc, get_or-take, length-take-le, get_or-append_seam}
+use borrow.Author.Tests.{le-ltb, ltb-false, ne_eqb}
+use Rattle.octets.specs.Bytes.{value, parts, over}
+use Rattle.octets.proofs.Bytes.{length-parts, parts_at}
 use Rattle.predicates.specs.declared.Predicate.{Predicate}
 use Rattle.replies.specs.declared.Refusal.{Refusal}
 use Rattle.replies.specs.declared.Refusal.TheVariants as R
 use Rattle.registers.specs.declared.State.{State}
-use Rattle.registers.specs.State.{all_false, ffr, made, read_p}
+use Rattle.registers.specs.State.{all_false, ffr, read_p}
 use Rattle.image.specs.Sections.{Section, sections, section_at, shape_of, count_of, content_of, is_missing, after, section_reply, or_else, sections_reply, start_of}
-use Rattle.image.specs.Reading.{vl_of, sections_of, x_at, predicates_at, ffr_at, flags_at, words_at, is_old, image_reply, flags_in, predicate_of, ffr_in, state_of, words_of, read_of, list_after}
+use Rattle.image.specs.Reading.{vl_of, sections_of, predicates_at, ffr_at, words_at, is_old, image_reply, predicate_of, ffr_in, state_of, words_of, read_of, list_after}
 use Rattle.image.proofs.SectionLaws.{Whole, whole, fault_low, fault_high, next, both_done, not-refused}
 
 -- ---- an image without a fault: every section is whole unless it is missing, and nothing is left
@@ -74,22 +76,7 @@ first-at_fault (s ∷ ss) (suc i) rest l before r e =
     next _ _ (before 0 (omega arith))
     ∙ first-at_fault ss i (after s rest) (omega arith) (λ j k. rw start_shift at (before (suc j) (omega arith))) r (rw start_shift at e)
 
--- ---- the reply, as the code finds it
-
-module _ (room : ℕ) (image : List ℕ) (f : Reply) (e : f ≡ sections_reply (sections_of image) image) where
-  module _ (rest : List ℕ) (n : ℕ) (er : rest ≡ words_at image) (en : n ≡ count_of rest) (h : f ≡ Ok tt) where
-    pub reply_crowded : room < n → Err R.BufferTooSmall ≡ image_reply room image
-    unfolding image_reply
-    reply_crowded l = rw (← er, ← en, lt-ltb _ _ l) (sym (next _ _ (sym e ∙ h)))
-
-    pub reply_done : n ≤ room → Ok tt ≡ image_reply room image
-    unfolding image_reply
-    reply_done l = rw (← er, ← en, le-ltb _ _ l) (sym (next _ _ (sym e ∙ h)))
-
 -- ---- the state
-
-pub old_is : (image rest : List ℕ) (vl : ℕ) (t : Bool) → vl ≡ vl_of image → rest ≡ ffr_at image → t ≡ is_missing (section_at (sections vl) 3) rest → t ≡ is_old image
-old_is image rest vl t ev er e = e ∙ ap₂ (λ (v : ℕ) (r : List ℕ). is_missing (section_at (sections v) 3) r) ev er
 
 pub old_ffr : (image : List ℕ) → is_old image ≡ true → ffr_in image ≡ all_false
 unfolding ffr_in
@@ -99,27 +86,30 @@ pub new-ffr : (image : List ℕ) → is_old image ≡ false → ffr_in image ≡
 unfolding ffr_in
 new-ffr image e = rw e
 
--- as the code finds it
-module _ (image : List ℕ) (t : Bool) (p : Predicate) (e : t ≡ is_old image) where
-  pub found_old : t ≡ true → p ≡ all_false → p ≡ ffr_in image
-  found_old h ep = ep ∙ sym (old_ffr image (sym e ∙ h))
+-- what an array holds that was made by calls which change nothing
+module _ {F B : Type 0} (g : Mut F (ℕ × Unit {0}) B) (f : F) (h : ℕ → B) (pure : (i : ℕ) (y : B) (q : F) → Called g f (i, tt) y q → (q ≡ f) × (y ≡ h i)) where
+  filled_from : (ys : List B) (i n : ℕ) → IsFromFnResultFrom g f ys i n → (k : ℕ) (d : B) → i ≤ k → k < i + n → get_or ys k d ≡ h k
+  filled_from ys i zero m k d l u = absurd (omega arith)
+  filled_from ys i (suc n) m k d l u =
+      let p = pure i m.1 m.0 m.3 in
+      elim (dec_lt i k) [
+        | yes a ↦ filled_from ys (i + 1) n (subst (λ (q : F). IsFromFnResultFrom g q ys (i + 1) n) p.0 m.4) k d (omega arith) (omega arith)
+        | no a ↦ let e : k ≡ i = omega arith in rw e (m.2.1 d ∙ p.1)
+      ]
 
-  pub found_new : (content bs : List ℕ) (vl : ℕ) → t ≡ false → vl ≡ vl_of image → content ≡ content_of (ffr_at image) → bs ≡ take (vl / 64) content → p ≡ predicate_of bs → p ≡ ffr_in image
-  found_new content bs vl h ev ec eb ep = rw (ep, eb, ec, ev) (sym (new-ffr image (sym e ∙ h)))
+  pub filled : {ys : List B} {n : ℕ} → IsFromFnResult g f ys n → (k : ℕ) (d : B) → k < n → get_or ys k d ≡ h k
+  filled {ys} {n} m k d l = filled_from ys 0 n m.each k d (omega arith) (omega arith)
 
--- P stored in an array that is FFR in every place
-pub ffr_last : (f : Predicate) (ps : List Predicate) → length ps ≡ 16 → sets (replicate 17 f) 0 ps ≡ ps ++ (f ∷ [])
-ffr_last f ps e = sets-eq ps (replicate 17 f) 0 (omega arith) ∙ rw e
+-- an array of parts, and one with an item more
+pub each_part : {A : Type 0} (f : List ℕ → A) (k n : ℕ) (bs : List ℕ) (xs : List A) (d : A) → length xs ≡ n → ((i : ℕ) → i < n → get_or xs i d ≡ f (take k (drop (i * k) bs))) → xs ≡ parts f k n bs
+each_part f k n bs xs d e each =
+    ext_get_or d xs (parts f k n bs) (e ∙ sym (length-parts f k n bs)) (λ i l. let h : i < n = rw e at l in each i h ∙ sym (parts_at f k n i bs d h))
 
-pub state_from : (image settings fc xc pc : List ℕ) (vl a level : ℕ) (flags : Flags) (x : List ℕ) (f : Predicate) (p : List Predicate) (s : State)
-    → s ≡ made vl level (eqb a 1) flags x p
-    → vl ≡ vl_of image → settings ≡ content_of image → level ≡ get_or settings 1 0 → a ≡ get_or settings 2 0
-    → flags ≡ flags_in fc → fc ≡ content_of (flags_at image)
-    → x ≡ parts value 8 31 xc → xc ≡ content_of (x_at image)
-    → p ≡ parts predicate_of (vl / 64) 16 pc ++ (f ∷ []) → pc ≡ content_of (predicates_at image) → f ≡ ffr_in image
-    → s ≡ state_of image
-unfolding state_of
-state_from image settings fc xc pc vl a level flags x f p s es ev et el ea e1 e2 x1 x2 q1 q2 ef = rw (es, q1, ev, el, ea, et, e1, e2, x1, x2, q2, ef)
+pub ffr_last : (size : ℕ) (bs : List ℕ) (ps : List Predicate) (f : Predicate) → length ps ≡ 17 → ((i : ℕ) → i < 16 → get_or ps i f ≡ predicate_of (take size (drop (i * size) bs))) → get_or ps 16 f ≡ f
+    → ps ≡ parts predicate_of size 16 bs ++ (f ∷ [])
+ffr_last size bs ps f e each last =
+    sym (take_all 17 ps (omega arith)) ∙ take-suc ps 16 f (omega arith)
+    ∙ ap₂ (λ (xs : List Predicate) (x : Predicate). xs ++ (x ∷ [])) (each_part predicate_of size 16 bs (take 16 ps) f (length-take-le 16 ps (omega arith)) (λ i l. get_or-take 16 ps i f l ∙ each i l)) last
 
 -- ---- FFR
 
@@ -176,7 +166,6 @@ module _ (image list : List ℕ) (f : Reply) (e : f ≡ image_reply (length list
       unfolding read_of
       read_done s es = rw (es, ek, er) (sym (next _ _ (sym e ∙ h)))
 
-      pub list_done : (past content : List ℕ) → content ≡ content_of rest → past ≡ sets list 0 (parts value 4 k content) → past ≡ list_after image list
-      unfolding list_after words_of
-      list_done past content ec ea =
-          rw (← e, h, ea, ek, ec, er) (sets_over list (parts value 4 (count_of (words_at image)) (content_of (words_at image))) (rw length-parts found.fits))
+      pub list_done : (words content : List ℕ) → content ≡ content_of rest → words ≡ parts value 4 (length (take k list)) content → words ++ drop k list ≡ list_after image list
+      unfolding list_after words_of over
+      list_done words content ec ew = rw (ew, length-take-le k list fill-room, ← e, h, ec, ek, er, length-parts)

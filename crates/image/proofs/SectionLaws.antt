@@ -1,100 +1,59 @@
 -- Laws of sections: what the code finds of one by its number, which fault answers, and what a section without one has. Assumes nothing.
 use Rattle.replies.specs.Reply.{Reply}
 use Rattle.std.specs.Prelude.{Result, Ok, Err}
-use mathlib.Core.Bool.{Bool, true, false, not, ◌&&◌, ◌||◌}
+use Rattle.std.specs.List.{list_any, range_with_len}
+use mathlib.Core.Bool.{Bool, true, false, not, ◌||◌}
 use mathlib.Core.List.{List, [], ◌∷◌}
 use mathlib.Core.Path.{◌≡◌, refl, sym, ap, ap₂, ◌∙◌}
-use Prim.Native.Nat.{ℕ, zero, suc, ◌+◌, ◌*◌, ◌/◌, ◌≤◌, ◌<◌}
-use native.Mathlib.Nat.{le_antisymm, le_trans, mul-le-mul, mul-le-mul_right}
+use Prim.Native.Nat.{ℕ, zero, suc, ◌+◌, ◌*◌, ◌≤◌, ◌<◌}
+use native.Mathlib.Nat.{le_trans, mul-le-mul, mul-le-mul_right, mul-zero}
 use native.Mathlib.Numerals.{add-one}
 use native.Mathlib.Omega.{arith}
-use lib.Dec.{ltb, leb, eqb, lit≤}
-use lib.ListN.{length, take, drop, get_or, length-take}
+use lib.Dec.{ltb, lit≤}
+use lib.ListN.{length, take, drop, get_or, length-take, drop_of_length-le}
 use lib.Seq.{drop-cons}
 use borrow.Author.Tests.{lt-ltb, le-ltb, ltb-false, not-false}
 use mir.Syntax.{w8}
 use mir.Val.{Fits}
 use Rattle.bits.specs.Choice.{pick}
 use Rattle.bits.specs.Search.{some}
-use Rattle.bits.proofs.Searches.{never, some_yes, some_no, some-none}
+use Rattle.bits.proofs.Searches.{never, some_no, some-none, some_cong}
 use Rattle.octets.proofs.Bytes.{bytes_of, bytes_take, value-below}
 use Rattle.replies.specs.declared.Refusal.{Refusal}
 use Rattle.replies.specs.declared.Refusal.TheVariants as R
-use Rattle.registers.specs.Legal.{settings_allowed}
+use Rattle.image.specs.declared.sections.Section.{Section as Name}
+use Rattle.image.specs.declared.sections.Section.TheVariants as N
 use Rattle.image.specs.declared.sections.Shape.{Shape}
-use Rattle.image.specs.Sections.{Section, setting, sections, section_at, shape_of, count_of, content_of, is_missing, after, has_wrong, section_reply, or_else, sections_reply, start_of}
+use Rattle.image.specs.Sections.{Section, sections, section_at, place_of, shape_of, count_of, content_of, is_missing, after, has_wrong, section_reply, or_else, sections_reply, start_of}
 use Rattle.image.specs.Reading.{vl_of, sections_of}
 
--- ---- a section by its number
+-- ---- a section by its place
 
-module _ (vl i : ℕ) where
-  module _ (r : Shape) where
-    pub settings_shape : i ≡ 0 → r ≡ record { lowest = 3; highest = 3; item = 1; optional = false } → r ≡ shape_of (section_at (sections vl) i)
-    unfolding sections
-    settings_shape e h = rw e h
+abbrev pub all : List Name
+all = N.Settings ∷ N.X ∷ N.P ∷ N.Ffr ∷ N.Flags ∷ N.Words ∷ []
 
-    pub x_shape : i ≡ 1 → r ≡ record { lowest = 31; highest = 31; item = 8; optional = false } → r ≡ shape_of (section_at (sections vl) i)
-    unfolding sections
-    x_shape e h = rw e h
+pub place_at : (i : ℕ) (d : Name) → i < 6 → place_of (get_or all i d) ≡ i
+place_at zero d h = refl
+place_at (suc zero) d h = refl
+place_at (suc (suc zero)) d h = refl
+place_at (suc (suc (suc zero))) d h = refl
+place_at (suc (suc (suc (suc zero)))) d h = refl
+place_at (suc (suc (suc (suc (suc zero))))) d h = refl
+place_at (suc (suc (suc (suc (suc (suc i)))))) d h = absurd (omega arith)
 
-    pub p_shape : i ≡ 2 → r ≡ record { lowest = 16; highest = 16; item = vl / 64; optional = false } → r ≡ shape_of (section_at (sections vl) i)
-    unfolding sections
-    p_shape e h = rw e h
-
-    pub flags_shape : i ≡ 4 → r ≡ record { lowest = 4; highest = 4; item = 1; optional = false } → r ≡ shape_of (section_at (sections vl) i)
-    unfolding sections
-    flags_shape e h = rw e h
-
-  pub ffr_shape : i ≡ 3 → ◌≡◌ {A = Shape} (record { lowest = 1; highest = 1; item = vl / 64; optional = true }) (shape_of (section_at (sections vl) i))
-  unfolding sections
-  ffr_shape e = rw e
-
-  pub words_shape : i ≡ 5 → ◌≡◌ {A = Shape} (record { lowest = 0; highest = 4096; item = 4; optional = false }) (shape_of (section_at (sections vl) i))
-  unfolding sections
-  words_shape e = rw e
-
-pub past_shape : (vl i : ℕ) (r : Shape) → (i ≡ 0 → ⊥) → (i ≡ 1 → ⊥) → (i ≡ 2 → ⊥) → (i ≡ 3 → ⊥) → (i ≡ 4 → ⊥) → (i ≡ 5 → ⊥)
-    → r ≡ record { lowest = 0; highest = 0; item = 0; optional = false } → r ≡ shape_of (section_at (sections vl) i)
+-- past the last section an empty one
+pub past_last : (vl i : ℕ) → false ≡ ltb i 6 → section_at (sections vl) i ≡ section_at [] i
 unfolding sections
-past_shape vl zero r a b c d e f h = absurd (a refl)
-past_shape vl (suc zero) r a b c d e f h = absurd (b refl)
-past_shape vl (suc (suc zero)) r a b c d e f h = absurd (c refl)
-past_shape vl (suc (suc (suc zero))) r a b c d e f h = absurd (d refl)
-past_shape vl (suc (suc (suc (suc zero)))) r a b c d e f h = absurd (e refl)
-past_shape vl (suc (suc (suc (suc (suc zero))))) r a b c d e f h = absurd (f refl)
-past_shape vl (suc (suc (suc (suc (suc (suc i)))))) r a b c d e f h = h
+past_last vl zero h = never refl (sym h)
+past_last vl (suc zero) h = never refl (sym h)
+past_last vl (suc (suc zero)) h = never refl (sym h)
+past_last vl (suc (suc (suc zero))) h = never refl (sym h)
+past_last vl (suc (suc (suc (suc zero)))) h = never refl (sym h)
+past_last vl (suc (suc (suc (suc (suc zero))))) h = never refl (sym h)
+past_last vl (suc (suc (suc (suc (suc (suc i)))))) h = refl
 
-pub setting-byte : (vl i place b : ℕ) (t : Bool) → i ≡ 0 → t ≡ setting vl place b → t ≡ (section_at (sections vl) i).allowed place b
-unfolding sections
-setting-byte vl i place b t e h = rw e h
-
-pub flag-byte : (vl i place b : ℕ) → i ≡ 4 → leb b 1 ≡ (section_at (sections vl) i).allowed place b
-unfolding sections
-flag-byte vl i place b e = rw e
-
-pub any_byte_lem : (vl i place b : ℕ) → (i ≡ 0 → ⊥) → (i ≡ 4 → ⊥) → true ≡ (section_at (sections vl) i).allowed place b
-unfolding sections
-any_byte_lem vl zero place b h k = absurd (h refl)
-any_byte_lem vl (suc zero) place b h k = refl
-any_byte_lem vl (suc (suc zero)) place b h k = refl
-any_byte_lem vl (suc (suc (suc zero))) place b h k = refl
-any_byte_lem vl (suc (suc (suc (suc zero)))) place b h k = absurd (k refl)
-any_byte_lem vl (suc (suc (suc (suc (suc zero))))) place b h k = refl
-any_byte_lem vl (suc (suc (suc (suc (suc (suc i)))))) place b h k = refl
-
-pub length-byte : (vl place b w : ℕ) (t : Bool) → place ≡ 0 → w ≡ b → t ≡ settings_allowed (128 * w) 0 → t ≡ setting vl place b
-unfolding setting
-length-byte vl place b w t e f h = rw (e, ← f) h
-
-pub level-byte : (vl place b : ℕ) (t : Bool) → place ≡ 1 → t ≡ settings_allowed vl b → t ≡ setting vl place b
-unfolding setting
-level-byte vl place b t e h = rw e h
-
-pub access_byte : (vl place b : ℕ) → (place ≡ 0 → ⊥) → (place ≡ 1 → ⊥) → leb b 1 ≡ setting vl place b
-unfolding setting
-access_byte vl zero b h k = absurd (h refl)
-access_byte vl (suc zero) b h k = absurd (k refl)
-access_byte vl (suc (suc place)) b h k = refl
+pub past-after : (vl i : ℕ) (rest : List ℕ) → false ≡ ltb i 6 → drop 4 rest ≡ after (section_at (sections vl) i) rest
+past-after vl i rest h = rw (past_last vl i h, mul-zero) refl
 
 -- an item's bytes, whatever byte an image has for VL
 pub item_most : (vl i : ℕ) → vl ≤ 32640 → (section_at (sections vl) i).item ≤ 510
@@ -129,15 +88,9 @@ count-lt rest h = value-below 4 (take 4 rest) (omega (arith, length-take 4 rest)
 
 -- ---- whether it is missing, and what follows it
 
-pub missing_is : (s : Section) (shape : Shape) (rest : List ℕ) (n : ℕ) (t : Bool) → t ≡ (shape.optional && eqb n 4) → shape ≡ shape_of s → n ≡ count_of rest → t ≡ is_missing s rest
-missing_is s shape rest n t e es en = rw (e, es, en)
-
 module _ (s : Section) (rest : List ℕ) (t : Bool) (e : t ≡ is_missing s rest) where
   pub after_missing : t ≡ true → rest ≡ after s rest
   after_missing h = rw (← e, h)
-
-  pub after_is : (shape : Shape) (past : List ℕ) (n : ℕ) → t ≡ false → past ≡ drop (4 + n * shape.item) rest → shape ≡ shape_of s → n ≡ count_of rest → past ≡ after s rest
-  after_is shape past n h p es en = rw (p, es, en, ← e, h)
 
 -- how many bytes it has: none if it is missing
 abbrev pub taken : Section → List ℕ → ℕ
@@ -152,16 +105,26 @@ after_taken s rest = go (is_missing s rest)
 
 -- ---- its content, byte by byte
 
-module _ (s : Section) (content : List ℕ) where
-  pub wrong_hit : (i n b : ℕ) (t : Bool) → i < n → b ≡ get_or content i 0 → t ≡ s.allowed i b → not t ≡ true → true ≡ has_wrong s content n
-  wrong_hit i n b t l eb et h = sym (some_yes (λ k. not (s.allowed k (get_or content k 0))) n i l (rw (← eb, ← et) h))
+-- a search from the lowest on
+some_low : (f : ℕ → Bool) (n : ℕ) → some f (suc n) ≡ (f 0 || some (λ i. f (suc i)) n)
+unfolding some
+some_low f zero = refl
+some_low f (suc n) = ap (λ (t : Bool). f (suc n) || t) (some_low f n) ∙ swap (f (suc n)) (f 0) (some (λ i. f (suc i)) n)
+  where
+    swap : (a b c : Bool) → (a || (b || c)) ≡ (b || (a || c))
+    swap false b c = refl
+    swap true true c = refl
+    swap true false c = refl
 
-  pub wrong_turn : (i b : ℕ) (t : Bool) → b ≡ get_or content i 0 → t ≡ s.allowed i b → not t ≡ false → has_wrong s content i ≡ false → has_wrong s content (i + 1) ≡ false
-  unfolding some
-  wrong_turn i b t eb et h k = rw (add-one, ← eb, ← et, h) k
+any_from : (f : ℕ → Bool) (n a : ℕ) → list_any f (range_with_len a n) ≡ some (λ i. f (a + i)) n
+unfolding some
+any_from f zero a = refl
+any_from f (suc n) a =
+    ap (λ (t : Bool). f a || t) (any_from f n (a + 1) ∙ some_cong (λ i. f (a + 1 + i)) (λ i. f (a + suc i)) n (λ i l. ap f (omega arith)))
+    ∙ ap (λ (k : ℕ). f k || some (λ i. f (a + suc i)) n) (omega arith) ∙ sym (some_low (λ i. f (a + i)) n)
 
-  pub wrong_none : (i n : ℕ) → has_wrong s content i ≡ false → i ≤ n → n ≤ i → false ≡ has_wrong s content n
-  wrong_none i n k l h = sym (ap (has_wrong s content) (le_antisymm h l) ∙ k)
+pub any_some : (f : ℕ → Bool) (n : ℕ) → list_any f (range_with_len 0 n) ≡ some f n
+any_some f n = any_from f n 0 ∙ some_cong (λ i. f (0 + i)) f n (λ i l. ap f (omega arith))
 
 -- ---- the first fault answers
 
@@ -186,14 +149,6 @@ not-refused false r k e = (refl, e)
 -- ---- one section, as the code tests it
 
 module _ (s : Section) (rest : List ℕ) where
-  pub fault_cut : length rest < 4 → Err R.ImageCut ≡ section_reply s rest
-  unfolding section_reply
-  fault_cut h = rw (lt-ltb _ _ h)
-
-  pub fault_missing : (t : Bool) → t ≡ is_missing s rest → t ≡ true → 4 ≤ length rest → Ok tt ≡ section_reply s rest
-  unfolding section_reply
-  fault_missing t et m h = rw (le-ltb _ _ h, ← et, m)
-
   module _ (shape : Shape) (n : ℕ) (m : Bool) (em : m ≡ is_missing s rest) (no : m ≡ false) (es : shape ≡ shape_of s) (en : n ≡ count_of rest) (h : 4 ≤ length rest) where
     there : is_missing s rest ≡ false
     there = sym em ∙ no
@@ -204,9 +159,6 @@ module _ (s : Section) (rest : List ℕ) where
     high : s.highest ≡ shape.highest
     high = sym (ap (λ (x : Shape). x.highest) es)
 
-    bytes : s.item ≡ shape.item
-    bytes = sym (ap (λ (x : Shape). x.item) es)
-
     pub fault_low : n < shape.lowest → Err R.NotAllowed ≡ section_reply s rest
     unfolding section_reply
     fault_low l = rw (there, ← en, low, le-ltb _ _ h, lt-ltb _ _ l)
@@ -214,20 +166,6 @@ module _ (s : Section) (rest : List ℕ) where
     pub fault_high : shape.lowest ≤ n → shape.highest < n → Err R.NotAllowed ≡ section_reply s rest
     unfolding section_reply
     fault_high l g = rw (there, ← en, low, high, le-ltb _ _ h, le-ltb _ _ l, lt-ltb _ _ g)
-
-    module _ (l : shape.lowest ≤ n) (g : n ≤ shape.highest) where
-      pub fault_short : length rest < 4 + n * shape.item → Err R.ImageCut ≡ section_reply s rest
-      unfolding section_reply
-      fault_short k = rw (there, ← en, low, high, bytes, le-ltb _ _ h, le-ltb _ _ l, le-ltb _ _ g, lt-ltb _ _ k)
-
-      module _ (content : List ℕ) (t : Bool) (k : 4 + n * shape.item ≤ length rest) (ec : content ≡ content_of rest) (et : t ≡ has_wrong s content (n * shape.item)) where
-        pub fault_wrong : t ≡ true → Err R.NotAllowed ≡ section_reply s rest
-        unfolding section_reply
-        fault_wrong w = rw (there, ← en, low, high, bytes, le-ltb _ _ h, le-ltb _ _ l, le-ltb _ _ g, le-ltb _ _ k, ← ec, ← et, w)
-
-        pub fault_none : t ≡ false → Ok tt ≡ section_reply s rest
-        unfolding section_reply
-        fault_none w = rw (there, ← en, low, high, bytes, le-ltb _ _ h, le-ltb _ _ l, le-ltb _ _ g, le-ltb _ _ k, ← ec, ← et, w)
 
 -- a section that is there, without a fault
 pub record Whole (s : Section) (rest : List ℕ) : Type 0 where
@@ -273,12 +211,9 @@ taken_most s rest e = go (is_missing s rest) refl
 
 -- ---- all sections, one after the other
 
-pub start_turn : (ss : List Section) (i : ℕ) (image rest past : List ℕ) → rest ≡ start_of ss i image → past ≡ after (section_at ss i) rest → past ≡ start_of ss (i + 1) image
+pub start_turn : (ss : List Section) (i k : ℕ) (image rest past : List ℕ) → k ≡ i → rest ≡ start_of ss i image → past ≡ after (section_at ss k) rest → past ≡ start_of ss (i + 1) image
 unfolding start_of
-start_turn ss i image rest past e p = rw (add-one, ← e) p
-
-pub start_end : (image rest : List ℕ) (vl i n : ℕ) → vl ≡ vl_of image → rest ≡ start_of (sections vl) i image → i ≤ n → n ≤ i → rest ≡ start_of (sections_of image) n image
-start_end image rest vl i n v e l h = e ∙ ap₂ (λ (x k : ℕ). start_of (sections x) k image) v (le_antisymm l h)
+start_turn ss i k image rest past h e p = p ∙ ap₂ (λ (n : ℕ) (r : List ℕ). after (section_at ss n) r) h e ∙ rw add-one
 
 -- the reply of the sections that are left is that of all
 pub reply_left : (image rest : List ℕ) (vl i : ℕ) (f : Reply) → vl ≡ vl_of image → sections_reply (drop i (sections vl)) rest ≡ sections_reply (sections vl) image
@@ -293,28 +228,25 @@ module _ (vl : ℕ) (i : ℕ) (l : i < 6) where
   pub here : drop i (sections vl) ≡ section_at (sections vl) i ∷ drop (suc i) (sections vl)
   here = drop-cons (sections vl) i _ (rw sections_six l)
 
-  pub refused_here : (rest : List ℕ) (f a : Reply) (r : Refusal) → f ≡ section_reply (section_at (sections vl) i) rest → f ≡ Err r → a ≡ Err r
+  pub refused_here : (k : ℕ) (rest : List ℕ) (f a : Reply) (r : Refusal) → k ≡ i → f ≡ section_reply (section_at (sections vl) k) rest → f ≡ Err r → a ≡ Err r
       → a ≡ sections_reply (drop i (sections vl)) rest
   unfolding sections_reply
-  refused_here rest f a r e d h = rw here (first_fault f _ _ a r e d h)
+  refused_here k rest f a r ek e d h = rw here (first_fault f _ _ a r (rw ek at e) d h)
 
-  pub passed_on : (image rest past : List ℕ) (f : Reply) → f ≡ section_reply (section_at (sections vl) i) rest → f ≡ Ok tt
-      → past ≡ after (section_at (sections vl) i) rest → sections_reply (drop i (sections vl)) rest ≡ sections_reply (sections vl) image
+  pub passed_on : (k : ℕ) (image rest past : List ℕ) (f : Reply) → k ≡ i → f ≡ section_reply (section_at (sections vl) k) rest → f ≡ Ok tt
+      → past ≡ after (section_at (sections vl) k) rest → sections_reply (drop i (sections vl)) rest ≡ sections_reply (sections vl) image
       → sections_reply (drop (i + 1) (sections vl)) past ≡ sections_reply (sections vl) image
   unfolding sections_reply
-  passed_on image rest past f e d p k = rw (add-one, p) (sym (next _ _ (sym e ∙ d))) ∙ sym (ap (λ (l : List Section). sections_reply l rest) here) ∙ k
+  passed_on k image rest past f ek e d p h = rw (add-one, p, ek) (sym (next _ _ (sym (rw ek at e) ∙ d))) ∙ sym (ap (λ (l : List Section). sections_reply l rest) here) ∙ h
+
+pub past : (vl i : ℕ) → 6 ≤ i → drop i (sections vl) ≡ []
+past vl i l = drop_of_length-le (sections vl) {i = i} (rw sections_six l)
 
 module _ (vl : ℕ) (i : ℕ) (l : 6 ≤ i) (rest : List ℕ) where
-  none_left : (k : ℕ) (ss : List Section) → length ss ≤ k → drop k ss ≡ []
-  none_left zero [] h = refl
-  none_left zero (s ∷ ss) h = absurd (omega arith)
-  none_left (suc k) [] h = refl
-  none_left (suc k) (s ∷ ss) h = none_left k ss (omega arith)
-
   pub bytes_left : 0 < length rest → Err R.TrailingBytes ≡ sections_reply (drop i (sections vl)) rest
   unfolding sections_reply
-  bytes_left h = rw (none_left i (sections vl) (rw sections_six l), lt-ltb _ _ h)
+  bytes_left h = rw (past vl i l, lt-ltb _ _ h)
 
   pub no_bytes_left : length rest ≤ 0 → Ok tt ≡ sections_reply (drop i (sections vl)) rest
   unfolding sections_reply
-  no_bytes_left h = rw (none_left i (sections vl) (rw sections_six l), le-ltb _ _ h)
+  no_bytes_left h = rw (past vl i l, le-ltb _ _ h)

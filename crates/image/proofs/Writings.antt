@@ -4,18 +4,18 @@ use Rattle.std.specs.Prelude.{Ok, Err}
 use mathlib.Core.Bool.{Bool, true, false, not}
 use mathlib.Core.List.{List, [], ◌∷◌, ◌++◌}
 use mathlib.Core.Path.{◌≡◌, refl, sym, ap, ◌∙◌}
-use Prim.Native.Nat.{ℕ, zero, suc, ◌+◌, ◌-◌, ◌*◌, ◌/◌, ◌≤◌, ◌<◌}
+use Prim.Native.Nat.{ℕ, suc, ◌+◌, ◌-◌, ◌*◌, ◌/◌, ◌≤◌, ◌<◌}
+use native.Mathlib.Numerals.{add-one}
 use native.Mathlib.Omega.{arith}
-use lib.Dec.{lit≤}
-use lib.ListN.{length, take, drop, get_or, length-append}
-use lib.Seq.{sets, length-take-le, drop-cons, get_or-take, get_or-drop}
+use lib.ListN.{length, take, drop, get_or, length-append, drop_of_length-le}
+use lib.Seq.{sets, length-take-le, drop-cons}
 use borrow.Author.Tests.{lt-ltb, le-ltb}
+use mir.Val.{bool_byte}
 use Rattle.bits.specs.Choice.{pick, digit}
 use Rattle.bits.proofs.Searches.{never}
 use Rattle.octets.specs.Bytes.{le, joined}
-use Rattle.octets.proofs.Bytes.{length-le, length-joined, put_turn, sets_append, sets_over}
+use Rattle.octets.proofs.Bytes.{length-le, length-joined, sets_append, sets_over}
 use Rattle.predicates.specs.declared.Flags.{Flags}
-use Rattle.predicates.specs.declared.Predicate.{Predicate}
 use Rattle.replies.specs.declared.Refusal.{Refusal}
 use Rattle.replies.specs.declared.Refusal.TheVariants as R
 use Rattle.registers.specs.declared.State.{State}
@@ -28,50 +28,34 @@ use Rattle.image.specs.Sections.{sections, section_at, shape_of, bytes_of, image
 use Rattle.image.specs.Image.{section, setting_items, predicate_bytes, flag_items, image_of}
 use Rattle.image.specs.Writing.{write_reply, written_of, buffer_after}
 use Rattle.image.proofs.PredicateBytes.{length_bytes}
-use Rattle.image.proofs.SectionLaws.{here}
+use Rattle.image.proofs.SectionLaws.{here, past}
 
 -- ---- the length, section by section
 
-abbrev pub length_left : ℕ → ℕ → ℕ → ℕ
-length_left vl words i = bytes_of (λ s. s.lowest) (drop i (sections vl)) + 4 * words
+-- how many bytes the sections from i on have, without words
+abbrev pub left : ℕ → ℕ → ℕ
+left vl i = bytes_of (λ s. s.lowest) (drop i (sections vl))
 
-pub length_start : (vl words : ℕ) → 4 * words ≡ length_left vl words 6
-unfolding sections bytes_of
+pub length_start : (vl words : ℕ) → 4 * words + left vl 0 ≡ image_length vl words
+unfolding image_length
 length_start vl words = omega arith
 
-pub length_end : (vl words i n : ℕ) → n ≡ length_left vl words i → i ≤ 0 → n ≡ image_length vl words
-unfolding image_length
-length_end vl words i n e h = let z : i ≡ 0 = omega arith in e ∙ ap (length_left vl words) z
-
-pub length-turn : (vl words i n : ℕ) (shape : Shape) → n ≡ length_left vl words i → 0 < i → i ≤ 6 → shape ≡ shape_of (section_at (sections vl) (i - 1))
-    → 4 + shape.lowest * shape.item + n ≡ length_left vl words (i - 1)
+pub length_left : (vl i k : ℕ) (shape : Shape) → i < 6 → k ≡ i → shape ≡ shape_of (section_at (sections vl) k) → 4 + shape.lowest * shape.item + left vl (i + 1) ≡ left vl i
 unfolding bytes_of
-length-turn vl words i n shape e h l es =
-    let k : suc (i - 1) ≡ i = omega arith in
-    let d : drop (i - 1) (sections vl) ≡ section_at (sections vl) (i - 1) ∷ drop i (sections vl) = here vl (i - 1) (omega arith) ∙ ap (λ (j : ℕ). section_at (sections vl) (i - 1) ∷ drop j (sections vl)) k in
-    let b : bytes_of (λ s. s.lowest) (drop (i - 1) (sections vl)) ≡ 4 + (section_at (sections vl) (i - 1)).lowest * (section_at (sections vl) (i - 1)).item + bytes_of (λ s. s.lowest) (drop i (sections vl)) =
-    ap (bytes_of (λ s. s.lowest)) d in
-    let m : shape.lowest * shape.item ≡ (section_at (sections vl) (i - 1)).lowest * (section_at (sections vl) (i - 1)).item = ap (λ (x : Shape). x.lowest * x.item) es in
-    omega arith
+length_left vl i k shape l ek es = rw (es, ek, here vl i l, add-one)
+
+pub length_end : (vl words i n : ℕ) → n + left vl i ≡ image_length vl words → 6 ≤ i → n ≡ image_length vl words
+unfolding bytes_of
+length_end vl words i n e h = let z : left vl i ≡ 0 = ap (bytes_of (λ s. s.lowest)) (past vl i h) in omega (arith, e)
+
+pub length-most : (vl words : ℕ) → vl ≤ 2048 → words ≤ 4096 → image_length vl words ≤ 17207
+unfolding image_length sections bytes_of
+length-most vl words h l = omega arith
 
 -- The largest image has 17,207 bytes.
 pub largest_is : largest_image ≡ 17207
 unfolding image_length sections bytes_of
 largest_is = refl
-
--- the least that a section has, up to VL 2048
-pub least_most : (vl i : ℕ) (shape : Shape) → vl ≤ 2048 → shape ≡ shape_of (section_at (sections vl) i) → shape.lowest * shape.item ≤ 992
-unfolding sections
-least_most vl i shape h e = rw e (go i)
-  where
-    go : (i : ℕ) → (section_at (sections vl) i).lowest * (section_at (sections vl) i).item ≤ 992
-    go zero = lit≤ tt
-    go (suc zero) = lit≤ tt
-    go (suc (suc zero)) = omega arith
-    go (suc (suc (suc zero))) = omega arith
-    go (suc (suc (suc (suc zero)))) = lit≤ tt
-    go (suc (suc (suc (suc (suc zero))))) = omega arith
-    go (suc (suc (suc (suc (suc (suc i)))))) = omega arith
 
 -- ---- the sections as they are written
 
@@ -84,25 +68,35 @@ pub section-length : {A : Type 0} (g : A → List ℕ) (k : ℕ) → ((x : A) �
 unfolding section
 section-length g k len items = simp (length-append, length-le, length-joined g k len items)
 
--- a turn of the loop that writes the n predicates from `first` on
-pub chosen_turn : (size : ℕ) (l m : List ℕ) (at i : ℕ) (p : List Predicate) (first n : ℕ) (d : Predicate) → i < n → i < length (take n (drop first p))
-    → m ≡ sets l (at + i * size) (predicate_bytes size (get_or p (first + i) d))
-    → sets m (at + (i + 1) * size) (joined (predicate_bytes size) (drop (i + 1) (take n (drop first p)))) ≡ sets l (at + i * size) (joined (predicate_bytes size) (drop i (take n (drop first p))))
-chosen_turn size l m at i p first n d h k e =
-    put_turn (predicate_bytes size) size (length_bytes size) l m at i (take n (drop first p)) d k
-    (e ∙ ap (λ (q : Predicate). sets l (at + i * size) (predicate_bytes size q)) (sym (get_or-take n (drop first p) i d h ∙ get_or-drop first p i d)))
+-- a turn of the loop that writes them: what is left to write
+pub item_turn : {A : Type 0} (g : A → List ℕ) (l m : List ℕ) (next k i : ℕ) (xs : List A) (x : A) → i < length xs → x ≡ get_or xs i x → m ≡ sets l next (g x) → length (g x) ≡ k
+    → sets m (next + k) (joined g (drop (i + 1) xs)) ≡ sets l next (joined g (drop i xs))
+unfolding joined
+item_turn g l m next k i xs x h ex em ek =
+    let d : drop i xs ≡ x ∷ drop (suc i) xs = drop-cons xs i x h ∙ ap (λ y. y ∷ drop (suc i) xs) (sym ex) in
+    rw (em, add-one, d, ← ek) (sym (sets_append l next (g x) (joined g (drop (suc i) xs))))
 
-pub three_items : (s : State) (t : ℕ) → t ≡ digit s.access → s.vl / 128 ∷ s.level ∷ t ∷ [] ≡ setting_items s
-three_items s t e = rw e
+pub item_end : {A : Type 0} (g : A → List ℕ) (l : List ℕ) (next i : ℕ) (xs : List A) → length xs ≤ i → sets l next (joined g (drop i xs)) ≡ l
+unfolding joined
+item_end g l next i xs h = rw (drop_of_length-le xs h)
 
-pub four_items : (f : Flags) (a b c d : ℕ) → a ≡ digit f.n → b ≡ digit f.z → c ≡ digit f.c → d ≡ digit f.v → a ∷ b ∷ c ∷ d ∷ [] ≡ flag_items f
-four_items f a b c d ea eb ec ed = rw (ea, eb, ec, ed)
+same_digit : (b : Bool) → bool_byte b ≡ digit b
+same_digit true = refl
+same_digit false = refl
+
+pub three_items : (s : State) (v t : ℕ) → v ≡ s.level → t ≡ bool_byte s.access → s.vl / 128 ∷ v ∷ t ∷ [] ≡ setting_items s
+three_items s v t ev e = rw (ev, e, same_digit)
+
+pub four_items : (f : Flags) (a b c d : ℕ) → a ≡ bool_byte f.n → b ≡ bool_byte f.z → c ≡ bool_byte f.c → d ≡ bool_byte f.v → a ∷ b ∷ c ∷ d ∷ [] ≡ flag_items f
+four_items f a b c d ea eb ec ed = rw (ea, eb, ec, ed, same_digit f.n, same_digit f.z, same_digit f.c, same_digit f.v)
 
 pub legal-vl : (s : State) → legal s ≡ true → s.vl ≤ 2048
 legal-vl s h = let (q, e, _, l) = quads s.vl (legal_has s h).len in omega arith
 
-more : (l m : List ℕ) (at next : ℕ) (x y : List ℕ) → m ≡ sets l at x → next ≡ at + length x → sets l at (x ++ y) ≡ sets m next y
-more l m at next x y e n = rw (e, n) (sets_append l at x y)
+-- what is written past a section stands past it
+pub past_section : {A : Type 0} (g : A → List ℕ) (k : ℕ) → ((x : A) → length (g x) ≡ k) → (l m : List ℕ) (at next : ℕ) (items : List A) (rest : List ℕ)
+    → m ≡ sets l at (section g items) → next ≡ at + (4 + length items * k) → sets m next rest ≡ sets l at (section g items ++ rest)
+past_section g k len l m at next items rest e n = rw (e, n, ← section-length g k len items) (sym (sets_append l at (section g items) rest))
 
 module _ (s : State) (ok : Sized s) (ws : List ℕ) where
   abbrev size : ℕ
@@ -136,39 +130,21 @@ module _ (s : State) (ok : Sized s) (ws : List ℕ) where
   unfolding image_length sections bytes_of
   image_length_lem = image_bytes ∙ omega arith
 
-  -- the last predicate, as the code cuts it out
-  last : take 1 (drop ffr s.p) ≡ read_p s ffr ∷ []
-  last = ap (take 1) (drop-cons s.p ffr all_false (omega (arith, ok.ps)))
+  -- P and FFR, as the code cuts them out
+  pub low_count : length (take 16 s.p) ≡ 16
+  low_count = length-take-le 16 s.p (omega (arith, ok.ps))
 
-  -- the sections written one after the other are the image
-  pub sections_put : (settings flags l a b c d e g : List ℕ) (x_at_lem p_at ffr-at flags_at_lem words_at_lem : ℕ) → settings ≡ setting_items s → flags ≡ flag_items s.flags
-      → a ≡ sets l 0 (section (le 1) settings) → x_at_lem ≡ 0 + (4 + length settings * 1)
-      → b ≡ sets a x_at_lem (section (le 8) s.x) → p_at ≡ x_at_lem + (4 + length s.x * 8)
-      → c ≡ sets b p_at (section (predicate_bytes size) (take ffr s.p)) → ffr-at ≡ p_at + (4 + 16 * size)
-      → d ≡ sets c ffr-at (section (predicate_bytes size) (take 1 (drop ffr s.p))) → flags_at_lem ≡ ffr-at + (4 + 1 * size)
-      → e ≡ sets d flags_at_lem (section (le 1) flags) → words_at_lem ≡ flags_at_lem + (4 + length flags * 1)
-      → g ≡ sets e words_at_lem (section (le 4) ws)
-      → g ≡ sets l 0 (image_of s ws)
+  pub last : take (length s.p - 16) (drop 16 s.p) ≡ read_p s ffr ∷ []
+  last = rw ok.ps (ap (take 1) (drop-cons s.p ffr all_false (omega (arith, ok.ps))))
+
+  -- the sections one after the other are the image
+  pub sections_are : (settings flags : List ℕ) → settings ≡ setting_items s → flags ≡ flag_items s.flags
+      → section (le 1) settings ++ (section (le 8) s.x ++ (section (predicate_bytes size) (take 16 s.p) ++ (section (predicate_bytes size) (take (length s.p - 16) (drop 16 s.p)) ++ (section (le 1) flags ++ section (le 4) ws))))
+      ≡ image_of s ws
   unfolding image_of
-  sections_put settings flags l a b c d e g x_at_lem p_at ffr-at flags_at_lem words_at_lem es ef ea na eb nb ec nc ed nd ee ne eg =
-      let s1 : List ℕ = section (le 1) (setting_items s) in
-      let s2 : List ℕ = section (le 8) s.x in
-      let s3 : List ℕ = section (predicate_bytes size) (take ffr s.p) in
-      let s4 : List ℕ = section (predicate_bytes size) (read_p s ffr ∷ []) in
-      let s5 : List ℕ = section (le 1) (flag_items s.flags) in
-      let s6 : List ℕ = section (le 4) ws in
-      eg
-      ∙ sym (more l a 0 x_at_lem s1 (s2 ++ (s3 ++ (s4 ++ (s5 ++ s6)))) (rw es at ea) (rw (na, es, length-settings))
-      ∙ more a b x_at_lem p_at s2 (s3 ++ (s4 ++ (s5 ++ s6))) eb (rw (nb, length_x, ok.xs))
-      ∙ more b c p_at ffr-at s3 (s4 ++ (s5 ++ s6)) ec (rw (nc, length_p))
-      ∙ more c d ffr-at flags_at_lem s4 (s5 ++ s6) (rw last at ed) (rw (nd, length-ffr))
-      ∙ more d e flags_at_lem words_at_lem s5 s6 (rw ef at ee) (rw (ne, ef, length_flags)))
+  sections_are settings flags es ef = rw (es, ef, last)
 
 -- ---- the replies, in their order
-
-chosen : (b : Bool) (x y : Reply) → not (not b) ≡ true → x ≡ pick b x y
-chosen true x y h = refl
-chosen false x y h = never h refl
 
 skipped : (b : Bool) (x y : Reply) → not b ≡ true → pick b x y ≡ y
 skipped true x y h = never h refl
@@ -179,14 +155,6 @@ lawful s true e h = sym e
 lawful s false e h = never refl h
 
 module _ (s : State) (ws : List ℕ) (room : ℕ) where
-  pub reply_illegal : (t : Bool) → t ≡ legal s → not t ≡ true → Err R.IllegalState ≡ write_reply s ws room
-  unfolding write_reply
-  reply_illegal t e h = chosen (illegal s) (Err R.IllegalState) _ (ap not (sym e) ∙ h)
-
-  pub reply_many : legal s ≡ true → 4096 < length ws → Err R.NotAllowed ≡ write_reply s ws room
-  unfolding write_reply
-  reply_many h l = sym (skipped (illegal s) (Err R.IllegalState) _ h ∙ rw (lt-ltb _ _ l))
-
   pub reply_small : legal s ≡ true → length ws ≤ 4096 → room < length (image_of s ws) → Err R.BufferTooSmall ≡ write_reply s ws room
   unfolding write_reply
   reply_small h l r = sym (skipped (illegal s) (Err R.IllegalState) _ h ∙ rw (le-ltb _ _ l, lt-ltb _ _ r))

@@ -7,6 +7,8 @@ use Rattle.octets.specs.Bytes.{value}
 use Rattle.replies.specs.declared.Refusal.{Refusal}
 use Rattle.replies.specs.declared.Refusal.TheVariants as R
 use Rattle.registers.specs.Legal.{settings_allowed}
+use Rattle.image.specs.declared.sections.Section.{Section as Name}
+use Rattle.image.specs.declared.sections.Section.TheVariants as N
 use Rattle.image.specs.declared.sections.Shape.{Shape}
 
 -- the range of its count, the bytes of an item, whether a byte is allowed at a place of its content, and whether it may be missing
@@ -43,6 +45,15 @@ sections vl =
 -- section i; past the last one an empty one
 abbrev pub section_at : List Section → ℕ → Section
 section_at ss i = get_or ss i (record { lowest = 0; highest = 0; item = 0; allowed = any_byte; optional = false })
+
+-- the place of each
+abbrev pub place_of : Name → ℕ
+place_of N.Settings = 0
+place_of N.X = 1
+place_of N.P = 2
+place_of N.Ffr = 3
+place_of N.Flags = 4
+place_of N.Words = 5
 
 -- a section's numbers
 abbrev pub shape_of : Section → Shape

@@ -18,6 +18,7 @@ pub mod sections;
 mod writer;
 
 pub use reader::blank;
+use sections::Section;
 
 // The most bytes that an image has: a constant, for the lengths of arrays.
 pub const LARGEST: usize = 17207;
@@ -42,14 +43,15 @@ pub fn read(image: &[u8], words: &mut [u32]) -> Result<Reading, Refusal>
     ensures words_after { words.new ≡ list_after image.now words.old }
 {
     reader::image_reply(image, words.len())?;
-    let rest = sections::start_of(image, sections::WORDS);
+    let rest = sections::start_of(image, Section::Words as usize);
     let count = sections::count_of(rest);
-    reader::fill(octets::after(rest, 4), count, words);
+    reader::fill(octets::after(rest, 4), &mut words[..count]);
     let state = reader::state_of(image);
     Ok(Reading { state, count })
 }
 
 // The image of a state and words at the front of the buffer, and how many bytes it has; a refusal leaves the buffer as it was.
+#[tactic(auto, unfolding(crate::specs::Writing::write_reply, crate::specs::Writing::written_of, crate::specs::Writing::buffer_after, crate::specs::Sections::or_else))]
 pub fn write(state: State, words: &[u32], image: &mut [u8]) -> Result<usize, Refusal>
     ensures value { result ≡ written_of state words.now (length image.old) }
     ensures image_after { image.new ≡ buffer_after state words.now image.old }

@@ -1,26 +1,30 @@
 // What reading an image answers: the reply, and what the sections hold.
 ghost use Rattle.std.specs.Prelude.{[], ◌∷◌, ◌++◌, ◌≡◌, ◌≤◌, length};
-ghost use Rattle.std.proofs.lemmas.List.Edits.{sets};
 ghost use Rattle.octets.specs.Bytes.{value, parts};
+ghost use Rattle.image.specs.Sections.{place_of};
 ghost use Rattle.image.specs.Reading.{content_of, sections_of, start_of, image_reply, flags_in, predicate_of, ffr_in, state_of, blank as blank_state};
 
 use super::sections;
+use super::sections::Section;
 use predicates::{Flags, Predicate};
 use registers::State;
 use replies::{Refusal, Reply};
+use std::array;
 
 // The sections' reply, and last that of the lent list's room.
+#[tactic(auto, unfolding(crate::specs::Reading::image_reply, crate::specs::Sections::or_else))]
 pub fn image_reply(image: &[u8], room: usize) -> Reply
     ensures { result ≡ image_reply room image.now }
 {
     sections::sections_reply(image)?;
-    if room < sections::count_of(sections::start_of(image, sections::WORDS)) {
+    if room < sections::count_of(sections::start_of(image, Section::Words as usize)) {
         return Err(Refusal::BufferTooSmall);
     }
     Ok(())
 }
 
 // The state of a refused reading.
+#[tactic(auto, unfolding(crate::specs::Reading::blank))]
 pub fn blank() -> State
     ensures { result ≡ blank_state }
 {
@@ -34,58 +38,56 @@ pub fn blank() -> State
     State::new(128, 0, false, flags, [0; 31], [none; registers::PREDICATES])
 }
 
-fn content_of(image: &[u8], section: usize) -> &[u8]
-    ensures { result.now ≡ content_of (start_of (sections_of image.now) section image.now) }
+fn content_of(image: &[u8], section: Section) -> &[u8]
+    ensures { result.now ≡ content_of (start_of (sections_of image.now) (place_of section) image.now) }
 {
-    octets::after(sections::start_of(image, section), 4)
+    octets::after(sections::start_of(image, section as usize), 4)
 }
 
 // The state of an image that has no fault.
+#[tactic(auto, unfolding(crate::specs::Reading::state_of))]
 pub fn state_of(image: &[u8]) -> State
     ensures { result ≡ state_of image.now }
 {
     let vl = sections::vector_length(image);
     let settings = octets::after(image, 4);
     let access = octets::byte(settings, 2) == 1;
-    let flags = flags_of(content_of(image, sections::FLAGS));
-    let x = x_of(content_of(image, sections::X));
+    let flags = flags_of(content_of(image, Section::Flags));
+    let x = x_of(content_of(image, Section::X));
     let size = (vl / 64) as usize;
-    let p = predicates_of(content_of(image, sections::P), size, ffr_of(image));
+    let p = predicates_of(content_of(image, Section::P), size, ffr_of(image));
     State::new(vl, octets::byte(settings, 1), access, flags, x, p)
 }
 
+#[tactic(auto, unfolding(crate::specs::Reading::flags_in))]
 fn flags_of(content: &[u8]) -> Flags
     ensures { result ≡ flags_in content.now }
 {
+    let is_set = |i| octets::byte(content, i) == 1;
     Flags {
-        n: octets::byte(content, 0) == 1,
-        z: octets::byte(content, 1) == 1,
-        c: octets::byte(content, 2) == 1,
-        v: octets::byte(content, 3) == 1,
+        n: is_set(0),
+        z: is_set(1),
+        c: is_set(2),
+        v: is_set(3),
     }
 }
 
 fn x_of(content: &[u8]) -> [u64; 31]
     ensures { result ≡ parts value 8 31 content.now }
 {
-    let mut x = [0; 31];
-    let mut i = 0;
-    while i < 31 {
-        x[i] = octets::number_at(content, i * 8, 8);
-        i += 1;
-    }
-    x
+    array::from_fn(|i| octets::number_at(content, i * 8, 8))
 }
 
 // FFR, which an old image does not have.
+#[tactic(auto, unfolding(crate::specs::Reading::ffr_in))]
 fn ffr_of(image: &[u8]) -> Predicate
     ensures { result ≡ ffr_in image.now }
 {
     if sections::is_old(image) {
-        return Predicate { words: [0; 4] };
+        return Predicate::none();
     }
     let size = (sections::vector_length(image) / 64) as usize;
-    predicate_of(octets::first(content_of(image, sections::FFR), size))
+    predicate_of(octets::first(content_of(image, Section::Ffr), size))
 }
 
 // P, and FFR after them.
@@ -93,35 +95,27 @@ fn predicates_of(content: &[u8], size: usize, ffr: Predicate) -> [Predicate; reg
     requires { size ≤ 510 }
     ensures { result ≡ parts predicate_of size 16 content.now ++ (ffr ∷ []) }
 {
-    let mut p = [ffr; registers::PREDICATES];
-    let mut i = 0;
-    while i < 16 {
-        p[i] = predicate_of(octets::first(octets::after(content, i * size), size));
-        i += 1;
-    }
-    p
+    array::from_fn(|i| if i < 16 {
+        predicate_of(octets::first(octets::after(content, i * size), size))
+    } else {
+        ffr
+    })
 }
 
 fn predicate_of(bs: &[u8]) -> Predicate
     ensures { result ≡ predicate_of bs.now }
 {
-    let a = octets::number_at(bs, 0, 8);
-    let b = octets::number_at(bs, 8, 8);
-    let c = octets::number_at(bs, 16, 8);
-    let d = octets::number_at(bs, 24, 8);
     Predicate {
-        words: [a, b, c, d],
+        words: array::from_fn(|i| octets::number_at(bs, i * 8, 8)),
     }
 }
 
-// Puts n words in the first n places of the list.
-pub fn fill(content: &[u8], n: usize, list: &mut [u32])
-    requires { (n ≤ 4096) × (n ≤ length list.old) }
-    ensures { list.new ≡ sets list.old 0 (parts value 4 n content.now) }
+// Puts a word in each place of the list. By index: bytes past the end read as 0.
+pub fn fill(content: &[u8], list: &mut [u32])
+    requires { length list.old ≤ 4096 }
+    ensures { list.new ≡ parts value 4 (length list.old) content.now }
 {
-    let mut i = 0;
-    while i < n {
-        list[i] = octets::number_at(content, i * 4, 4) as u32;
-        i += 1;
+    for (i, word) in list.iter_mut().enumerate() {
+        *word = octets::number_at(content, i * 4, 4) as u32;
     }
 }

@@ -1,27 +1,32 @@
-// The sections of an image as data, by their number: what is allowed in each, where each begins, and the reply to all.
+// The sections of an image as data: what is allowed in each, where each begins, and the reply to all.
 ghost use Rattle.std.specs.Prelude.{false, ◌≡◌, ◌≤◌, ◌<◌};
-ghost use Rattle.image.specs.Sections.{setting, sections, section_at, shape_of, count_of, is_missing, after as after_section, has_wrong, section_reply, sections_reply, start_of};
+ghost use Rattle.image.specs.Sections.{setting, sections, section_at, place_of, shape_of, count_of, is_missing, after as after_section, has_wrong, section_reply, sections_reply, start_of};
 ghost use Rattle.image.specs.Reading.{vl_of, sections_of, is_old};
 
 use replies::{Refusal, Reply};
 
-// The sections' numbers, in their order.
-pub const SETTINGS: usize = 0;
+#[derive(Clone, Copy, Debug, PartialEq, Eq)]
+pub enum Section {
+    Settings,
+    X,
+    P,
+    Ffr,
+    Flags,
+    Words,
+}
 
-pub const X: usize = 1;
-
-pub const P: usize = 2;
-
-pub const FFR: usize = 3;
-
-pub const FLAGS: usize = 4;
-
-pub const WORDS: usize = 5;
-// How many sections there are.
-pub const SECTIONS: usize = 6;
+// The sections in their order.
+pub const SECTIONS: [Section; 6] = [
+    Section::Settings,
+    Section::X,
+    Section::P,
+    Section::Ffr,
+    Section::Flags,
+    Section::Words,
+];
 
 // The range of a section's count, the bytes of an item, and whether it may be missing.
-#[derive(Clone, Copy)]
+#[derive(Clone, Copy, Debug, PartialEq, Eq)]
 pub struct Shape {
     pub lowest: usize,
     pub highest: usize,
@@ -29,83 +34,117 @@ pub struct Shape {
     pub optional: bool,
 }
 
-// The sections in their order; past the last an empty one.
-pub fn shape_of(section: usize, vl: u64) -> Shape
-    ensures { result ≡ shape_of (section_at (sections vl) section) }
-{
-    if section == SETTINGS {
-        return fixed(3, 1);
-    }
-    if section == X {
-        return fixed(31, 8);
-    }
-    if section == P {
-        return fixed(16, (vl / 64) as usize);
-    }
-    if section == FFR {
-        return Shape {
-            lowest: 1,
-            highest: 1,
-            item: (vl / 64) as usize,
-            optional: true,
-        };
-    }
-    if section == FLAGS {
-        return fixed(4, 1);
-    }
-    if section == WORDS {
-        return Shape {
-            lowest: 0,
-            highest: 4096,
-            item: 4,
+impl Shape {
+    // A section of so many items.
+    fn fixed(count: usize, item: usize) -> Shape
+        ensures { result ≡ record { lowest = count; highest = count; item = item; optional = false } }
+    {
+        Shape {
+            lowest: count,
+            highest: count,
+            item,
             optional: false,
-        };
-    }
-    fixed(0, 0)
-}
-
-// A section of so many items.
-fn fixed(count: usize, item: usize) -> Shape
-    ensures { result ≡ record { lowest = count; highest = count; item = item; optional = false } }
-{
-    Shape {
-        lowest: count,
-        highest: count,
-        item,
-        optional: false,
+        }
     }
 }
 
-// Whether a byte is allowed at a place of a section's content.
-pub fn is_allowed(section: usize, vl: u64, place: usize, b: u8) -> bool
-    ensures { result ≡ (section_at (sections vl) section).allowed place b }
-{
-    if section == SETTINGS {
-        return is_setting(vl, place, b);
+impl Section {
+    #[tactic(auto, unfolding(crate::specs::Sections::sections))]
+    pub fn shape(self, vl: u64) -> Shape
+        ensures { result ≡ shape_of (section_at (sections vl) (place_of self)) }
+    {
+        let size = (vl / 64) as usize;
+        match self {
+            Section::Settings => Shape::fixed(3, 1),
+            Section::X => Shape::fixed(31, 8),
+            Section::P => Shape::fixed(16, size),
+            Section::Ffr => Shape {
+                optional: true,
+                ..Shape::fixed(1, size)
+            },
+            Section::Flags => Shape::fixed(4, 1),
+            Section::Words => Shape {
+                lowest: 0,
+                ..Shape::fixed(4096, 4)
+            },
+        }
     }
-    if section == FLAGS {
-        return b <= 1;
+
+    // Whether a byte is allowed at a place of the content.
+    #[tactic(auto, unfolding(crate::specs::Sections::sections))]
+    pub fn is_allowed(self, vl: u64, place: usize, b: u8) -> bool
+        ensures { result ≡ (section_at (sections vl) (place_of self)).allowed place b }
+    {
+        match self {
+            Section::Settings => is_setting(vl, place, b),
+            Section::Flags => b <= 1,
+            Section::X | Section::P | Section::Ffr | Section::Words => true,
+        }
     }
-    true
+
+    // Whether it is missing: where its count would stand stands that of the flags.
+    fn is_missing(self, vl: u64, rest: &[u8]) -> bool
+        ensures { result ≡ is_missing (section_at (sections vl) (place_of self)) rest.now }
+    {
+        self.shape(vl).optional & (count_of(rest) == 4)
+    }
+
+    // What follows it. The bound on VL, which an image names in one byte, is asked here and by `reply` alone.
+    fn after(self, vl: u64, rest: &[u8]) -> &[u8]
+        requires { vl ≤ 32640 }
+        ensures { result.now ≡ after_section (section_at (sections vl) (place_of self)) rest.now }
+    {
+        if self.is_missing(vl, rest) {
+            return rest;
+        }
+        octets::after(rest, 4 + count_of(rest) * self.shape(vl).item)
+    }
+
+    // Count cut; no fault if it is missing; count wrong, content cut, content wrong.
+    #[tactic(auto, unfolding(crate::specs::Sections::section_reply))]
+    fn reply(self, vl: u64, rest: &[u8]) -> Reply
+        requires { vl ≤ 32640 }
+        ensures { result ≡ section_reply (section_at (sections vl) (place_of self)) rest.now }
+    {
+        if rest.len() < 4 {
+            return Err(Refusal::ImageCut);
+        }
+        if self.is_missing(vl, rest) {
+            return Ok(());
+        }
+        let shape = self.shape(vl);
+        let n = count_of(rest);
+        if n < shape.lowest || shape.highest < n {
+            return Err(Refusal::NotAllowed);
+        }
+        let bytes = n * shape.item;
+        if rest.len() < 4 + bytes {
+            return Err(Refusal::ImageCut);
+        }
+        if self.has_wrong(vl, octets::after(rest, 4), bytes) {
+            return Err(Refusal::NotAllowed);
+        }
+        Ok(())
+    }
+
+    // Whether one of the first n bytes of its content is not allowed.
+    fn has_wrong(self, vl: u64, content: &[u8], n: usize) -> bool
+        ensures { result ≡ has_wrong (section_at (sections vl) (place_of self)) content.now n }
+    {
+        (0..n).any(|i| !self.is_allowed(vl, i, octets::byte(content, i)))
+    }
 }
 
 // VL/128, level, access, a byte each.
+#[tactic(auto, unfolding(crate::specs::Sections::setting))]
 fn is_setting(vl: u64, place: usize, b: u8) -> bool
     ensures { result ≡ setting vl place b }
 {
-    if place == 0 {
-        return registers::settings_allowed(128 * wide(b), 0);
+    match place {
+        0 => registers::settings_allowed(128 * u64::from(b), 0),
+        1 => registers::settings_allowed(vl, b),
+        _ => b <= 1,
     }
-    if place == 1 {
-        return registers::settings_allowed(vl, b);
-    }
-    b <= 1
-}
-
-fn wide(b: u8) -> u64
-    ensures { result ≡ b }
-{
-    b as u64
 }
 
 // The vector length that an image names.
@@ -113,7 +152,7 @@ pub fn vector_length(image: &[u8]) -> u64
     ensures value { result ≡ vl_of image.now }
     ensures upper_bound { result ≤ 32640 }
 {
-    128 * wide(octets::byte(octets::after(image, 4), 0))
+    128 * u64::from(octets::byte(octets::after(image, 4), 0))
 }
 
 // A section's count: its first four bytes.
@@ -124,44 +163,52 @@ pub fn count_of(rest: &[u8]) -> usize
     octets::number_at(rest, 0, 4) as usize
 }
 
-// Whether a section is missing: where its count would stand stands that of the flags.
-fn is_missing(section: usize, vl: u64, rest: &[u8]) -> bool
-    ensures { result ≡ is_missing (section_at (sections vl) section) rest.now }
-{
-    let shape = shape_of(section, vl);
-    shape.optional & (count_of(rest) == 4)
-}
-
 // Whether an image has no FFR.
 pub fn is_old(image: &[u8]) -> bool
     ensures { result ≡ is_old image.now }
 {
-    is_missing(FFR, vector_length(image), start_of(image, FFR))
+    Section::Ffr.is_missing(vector_length(image), start_of(image, Section::Ffr as usize))
 }
 
-// What follows a section.
+// The shape of a section by its number; past the last an empty one.
+pub fn shape_of(section: usize, vl: u64) -> Shape
+    ensures { result ≡ shape_of (section_at (sections vl) section) }
+{
+    match SECTIONS.get(section) {
+        Some(named) => named.shape(vl),
+        None => Shape::fixed(0, 0),
+    }
+}
+
+// Whether a byte is allowed at a place of the content of a section by its number.
+pub fn is_allowed(section: usize, vl: u64, place: usize, b: u8) -> bool
+    ensures { result ≡ (section_at (sections vl) section).allowed place b }
+{
+    match SECTIONS.get(section) {
+        Some(named) => named.is_allowed(vl, place, b),
+        None => true,
+    }
+}
+
+// What follows a section by its number.
 fn after_section(section: usize, vl: u64, rest: &[u8]) -> &[u8]
     requires { vl ≤ 32640 }
     ensures { result.now ≡ after_section (section_at (sections vl) section) rest.now }
 {
-    if is_missing(section, vl, rest) {
-        return rest;
+    match SECTIONS.get(section) {
+        Some(named) => named.after(vl, rest),
+        None => octets::after(rest, 4),
     }
-    let shape = shape_of(section, vl);
-    octets::after(rest, 4 + count_of(rest) * shape.item)
 }
 
-// What is left of an image where a section begins.
+// What is left of an image where a section begins, by its number.
 pub fn start_of(image: &[u8], section: usize) -> &[u8]
     ensures { result.now ≡ start_of (sections_of image.now) section image.now }
 {
     let vl = vector_length(image);
     let mut rest = image;
-    let mut i = 0;
-    while i < section {
-        let next = after_section(i, vl, rest);
-        rest = next;
-        i += 1;
+    for i in 0..section {
+        rest = after_section(i, vl, rest);
     }
     rest
 }
@@ -172,58 +219,12 @@ pub fn sections_reply(image: &[u8]) -> Reply
 {
     let vl = vector_length(image);
     let mut rest = image;
-    let mut i = 0;
-    while i < SECTIONS {
-        section_reply(i, vl, rest)?;
-        let next = after_section(i, vl, rest);
-        rest = next;
-        i += 1;
+    for section in SECTIONS {
+        section.reply(vl, rest)?;
+        rest = section.after(vl, rest);
     }
     if 0 < rest.len() {
         return Err(Refusal::TrailingBytes);
     }
     Ok(())
-}
-
-// Count cut; no fault if it is missing; count wrong, content cut, content wrong.
-fn section_reply(section: usize, vl: u64, rest: &[u8]) -> Reply
-    requires { vl ≤ 32640 }
-    ensures { result ≡ section_reply (section_at (sections vl) section) rest.now }
-{
-    if rest.len() < 4 {
-        return Err(Refusal::ImageCut);
-    }
-    if is_missing(section, vl, rest) {
-        return Ok(());
-    }
-    let shape = shape_of(section, vl);
-    let n = count_of(rest);
-    if n < shape.lowest {
-        return Err(Refusal::NotAllowed);
-    }
-    if shape.highest < n {
-        return Err(Refusal::NotAllowed);
-    }
-    let bytes = n * shape.item;
-    if rest.len() < 4 + bytes {
-        return Err(Refusal::ImageCut);
-    }
-    if has_wrong(section, vl, octets::after(rest, 4), bytes) {
-        return Err(Refusal::NotAllowed);
-    }
-    Ok(())
-}
-
-// Whether one of the first n bytes of a section's content is not allowed.
-fn has_wrong(section: usize, vl: u64, content: &[u8], n: usize) -> bool
-    ensures { result ≡ has_wrong (section_at (sections vl) section) content.now n }
-{
-    let mut i = 0;
-    while i < n {
-        if !is_allowed(section, vl, i, octets::byte(content, i)) {
-            return true;
-        }
-        i += 1;
-    }
-    false
 }

@@ -1,15 +1,64 @@
 // The writing, section by section: each from `at` on, with the place of the next.
-ghost use Rattle.std.specs.Prelude.{true, ◌≡◌, ◌+◌, ◌*◌, ◌≤◌, min, length, take, drop};
+ghost use Rattle.std.specs.Prelude.{true, ◌≡◌, ℕ, ◌+◌, ◌*◌, ◌≤◌, List, length};
 ghost use Rattle.std.proofs.lemmas.List.Edits.{sets};
-ghost use Rattle.bits.specs.Choice.{digit};
 ghost use Rattle.octets.specs.Bytes.{le};
 ghost use Rattle.registers.specs.Legal.{legal};
 ghost use Rattle.image.specs.Sections.{image_length};
 ghost use Rattle.image.specs.Image.{section, predicate_bytes, image_of};
 
-use super::sections;
+use super::sections::SECTIONS;
 use predicates::Predicate;
 use registers::State;
+
+// What a section is made of: an item whose first bytes an image holds.
+trait Item: Copy {
+    // How many bytes it has.
+    ghost most: { ℕ };
+
+    // The first k of them.
+    ghost bytes: { ℕ → Self → List ℕ };
+
+    // Fills a slice with its first bytes.
+    fn put(self, slice: &mut [u8])
+        requires { length slice.old ≤ most }
+        ensures { slice.new ≡ bytes (length slice.old) self };
+}
+
+impl Item for u64 {
+    ghost most = { 8 };
+
+    ghost bytes = { le };
+
+    fn put(self, slice: &mut [u8]) {
+        let n = slice.len();
+        slice.copy_from_slice(&self.to_le_bytes()[..n]);
+    }
+}
+
+impl Item for u32 {
+    ghost most = { 4 };
+
+    ghost bytes = { le };
+
+    fn put(self, slice: &mut [u8]) {
+        u64::from(self).put(slice);
+    }
+}
+
+impl Item for Predicate {
+    ghost most = { 32 };
+
+    ghost bytes = { predicate_bytes };
+
+    fn put(self, slice: &mut [u8]) {
+        // By index: the words and the parts of the slice go in step.
+        let n = slice.len();
+        for (j, word) in self.words.iter().enumerate() {
+            let start = (j * 8).min(n);
+            word.put(&mut slice[start..(start + 8).min(n)]);
+        }
+    }
+}
 
 // How many bytes an image with so many words has.
 pub fn image_length(vl: u64, words: usize) -> usize
@@ -17,11 +66,9 @@ pub fn image_length(vl: u64, words: usize) -> usize
     ensures { result ≡ image_length vl words }
 {
     let mut length = 4 * words;
-    let mut i = sections::SECTIONS;
-    while 0 < i {
-        i -= 1;
-        let shape = sections::shape_of(i, vl);
-        length = 4 + shape.lowest * shape.item + length;
+    for section in SECTIONS {
+        let shape = section.shape(vl);
+        length += 4 + shape.lowest * shape.item;
     }
     length
 }
@@ -31,104 +78,38 @@ pub fn put_image(image: &mut [u8], state: State, words: &[u32])
     requires { (legal state ≡ true) × ((length words.now ≤ 4096) × (length (image_of state words.now) ≤ length image.old)) }
     ensures { image.new ≡ sets image.old 0 (image_of state words.now) }
 {
-    let vl = state.vl;
-    let settings = [vl / 128, state.level as u64, bit(state.access)];
-    let x_at = put_numbers(image, 0, 1, &settings);
-    let x = state.x;
-    let p_at = put_numbers(image, x_at, 8, &x);
-    let p = state.p;
-    let size = (vl / 64) as usize;
-    let ffr_at = put_predicates(image, p_at, size, p, 0, 16);
-    let flags_at = put_predicates(image, ffr_at, size, p, 16, 1);
+    let settings = [
+        state.vl / 128,
+        u64::from(state.level),
+        u64::from(state.access),
+    ];
+    let x_at = put_section(image, 0, 1, &settings);
+    let p_at = put_section(image, x_at, 8, &state.x);
+    let size = (state.vl / 64) as usize;
+    let ffr_at = put_section(image, p_at, size, &state.p[..16]);
+    let flags_at = put_section(image, ffr_at, size, &state.p[16..]);
     let f = state.flags;
-    let flags = [bit(f.n), bit(f.z), bit(f.c), bit(f.v)];
-    let words_at = put_numbers(image, flags_at, 1, &flags);
-    put_words(image, words_at, words);
+    let flags = [
+        u64::from(f.n),
+        u64::from(f.z),
+        u64::from(f.c),
+        u64::from(f.v),
+    ];
+    let words_at = put_section(image, flags_at, 1, &flags);
+    put_section(image, words_at, 4, words);
 }
 
-fn bit(b: bool) -> u64
-    ensures { result ≡ digit b }
+// A section: how many items it has, then `item` bytes of each. The image goes with a place: handing out what is left of it needs a clause on its lender.
+fn put_section<T: Item>(image: &mut [u8], at: usize, item: usize, items: &[T]) -> usize
+    requires { (item ≤ T.most) × (at + (4 + length items.now * item) ≤ length image.old) }
+    ensures value { result ≡ at + (4 + length items.now * item) }
+    ensures image_after { image.new ≡ sets image.old at (section (T.bytes item) items.now) }
 {
-    if b { 1 } else { 0 }
-}
-
-// The k lowest bytes of v, lowest first.
-fn put_number(image: &mut [u8], at: usize, k: usize, v: u64)
-    requires { at + k ≤ length image.old }
-    ensures { image.new ≡ sets image.old at (le k v) }
-{
-    let mut x = v;
-    let mut i = 0;
-    while i < k {
-        image[at + i] = (x % 256) as u8;
-        x = x / 256;
-        i += 1;
+    (items.len() as u64).put(&mut image[at..at + 4]);
+    let mut next = at + 4;
+    for x in items {
+        x.put(&mut image[next..next + item]);
+        next += item;
     }
-}
-
-// A section of numbers, k bytes each.
-fn put_numbers(image: &mut [u8], at: usize, k: usize, numbers: &[u64]) -> usize
-    requires { (k ≤ 8) × (at + (4 + length numbers.now * k) ≤ length image.old) }
-    ensures value { result ≡ at + (4 + length numbers.now * k) }
-    ensures image_after { image.new ≡ sets image.old at (section (le k) numbers.now) }
-{
-    put_number(image, at, 4, numbers.len() as u64);
-    let mut i = 0;
-    while i < numbers.len() {
-        put_number(image, at + 4 + i * k, k, numbers[i]);
-        i += 1;
-    }
-    at + 4 + i * k
-}
-
-// A section of the n predicates from `first` on, `size` bytes each.
-fn put_predicates(
-    image: &mut [u8],
-    at: usize,
-    size: usize,
-    p: [Predicate; registers::PREDICATES],
-    first: usize,
-    n: usize,
-) -> usize
-    requires { (size ≤ 32) × ((first + n ≤ 17) × (at + (4 + n * size) ≤ length image.old)) }
-    ensures value { result ≡ at + (4 + n * size) }
-    ensures image_after { image.new ≡ sets image.old at (section (predicate_bytes size) (take n (drop first p))) }
-{
-    put_number(image, at, 4, n as u64);
-    let mut i = 0;
-    while i < n {
-        put_predicate(image, at + 4 + i * size, size, p[first + i]);
-        i += 1;
-    }
-    at + 4 + n * size
-}
-
-// The first `size` bytes of a predicate.
-fn put_predicate(image: &mut [u8], at: usize, size: usize, p: Predicate)
-    requires { (size ≤ 32) × (at + size ≤ length image.old) }
-    ensures { image.new ≡ sets image.old at (predicate_bytes size p) }
-{
-    let mut j = 0;
-    while j * 8 < size {
-        put_number(image, at + j * 8, least(size - j * 8, 8), p.words[j]);
-        j += 1;
-    }
-}
-
-fn least(a: usize, b: usize) -> usize
-    ensures { result ≡ min a b }
-{
-    if a < b { a } else { b }
-}
-
-fn put_words(image: &mut [u8], at: usize, words: &[u32])
-    requires { (length words.now ≤ 4096) × (at + (4 + length words.now * 4) ≤ length image.old) }
-    ensures { image.new ≡ sets image.old at (section (le 4) words.now) }
-{
-    put_number(image, at, 4, words.len() as u64);
-    let mut i = 0;
-    while i < words.len() {
-        put_number(image, at + 4 + i * 4, 4, words[i] as u64);
-        i += 1;
-    }
+    next
 }

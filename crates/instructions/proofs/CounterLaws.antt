@@ -21,32 +21,6 @@ use Rattle.instructions.specs.Counter.{group_of, stored, counter_of, mark_of, co
 
 -- ---- stored
 
-pub counter-none : (up : Bool) (g n k : ℕ) → n ≡ 0 → 0 ≡ counter_of up g n k
-unfolding counter_of
-counter-none up g n k e = sym (ap (λ (t : Bool). pick t 0 (pick up (pick (eqb n g) (stored true 0 k) (stored false n k)) (stored true (g - n) k))) (eq-eqb n 0 e))
-
--- the number that a nonzero count is stored as
-abbrev some-counter : Bool → ℕ → ℕ → ℕ → ℕ
-some-counter up g n k = pick up (pick (eqb n g) (stored true 0 k) (stored false n k)) (stored true (g - n) k)
-
-counter-some : (up : Bool) (g n k : ℕ) → (n ≡ 0 → ⊥) → some-counter up g n k ≡ counter_of up g n k
-unfolding counter_of
-counter-some up g n k e = sym (ap (λ (t : Bool). pick t 0 (some-counter up g n k)) (ne_eqb n 0 e))
-
-pub counter_down : (up : Bool) (g n k m : ℕ) → (n ≡ 0 → ⊥) → up ≡ false → m ≡ stored false (g - n) k → 0x8000 + m ≡ counter_of up g n k
-counter_down up g n k m e u em =
-    ap (λ (x : ℕ). 0x8000 + x) em ∙ omega arith
-    ∙ sym (ap (λ (t : Bool). some-counter t g n k) u) ∙ counter-some up g n k e
-
-pub counter_full : (up : Bool) (g n k m : ℕ) → (n ≡ 0 → ⊥) → up ≡ true → n ≡ g → m ≡ stored false 0 k → 0x8000 + m ≡ counter_of up g n k
-counter_full up g n k m e u f em =
-    ap (λ (x : ℕ). 0x8000 + x) em ∙ omega arith
-    ∙ sym (ap₂ (λ (t s : Bool). pick t (pick s (stored true 0 k) (stored false n k)) (stored true (g - n) k)) u (eq-eqb n g f)) ∙ counter-some up g n k e
-
-pub counter_part : (up : Bool) (g n k m : ℕ) → (n ≡ 0 → ⊥) → up ≡ true → (n ≡ g → ⊥) → m ≡ stored false n k → m ≡ counter_of up g n k
-counter_part up g n k m e u f em =
-    em ∙ sym (ap₂ (λ (t s : Bool). pick t (pick s (stored true 0 k) (stored false n k)) (stored true (g - n) k)) u (ne_eqb n g f)) ∙ counter-some up g n k e
-
 -- a counter is 0, or a number below g stored, inverted or not
 pub counter_cases : (P : ℕ → Type 0) (up : Bool) (g n k : ℕ) → n ≤ g → P 0 → ((inverted : Bool) (m : ℕ) → m < g → P (stored inverted m k)) → P (counter_of up g n k)
 unfolding counter_of

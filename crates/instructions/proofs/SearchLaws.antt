@@ -1,5 +1,5 @@
 -- Laws of PFIRST's search and of CNTP's count. Assumes nothing.
-use Rattle.std.proofs.Common.{◌≡◌, ℕ, ◌+◌, ◌-◌, ◌*◌, ◌%◌, ◌^◌, ◌<◌, ◌≤◌, Bool, true, false, ◌&&◌, ◌||◌, eqb, sym, refl, ap, ◌∙◌, ap₂, mul-one, arith, le-ltb, lt-ltb}
+use Rattle.std.proofs.Common.{◌≡◌, ℕ, ◌*◌, ◌^◌, ◌<◌, ◌≤◌, Bool, true, false, ◌&&◌, ◌||◌, eqb, sym, refl, ap, ◌∙◌, ap₂, mul-one, arith, le-ltb, lt-ltb}
 use native.Mathlib.Decide.{dec_lt}
 use Rattle.bits.specs.declared.Size.{Size}
 use Rattle.bits.specs.declared.Size.TheVariants as Sz
@@ -95,15 +95,3 @@ module _ (size : Size) (v dn : Predicate) (vl e n : ℕ) (found_is : e ≡ next_
   next_found_flags h w masked b at =
       test_cong (bit_at w) (λ i. eqb i b) (bit_at (next_result size v dn vl)) 256 (λ i l. sym (ap (λ (q : Predicate). bit_at q i) (sym (next_found h) ∙ sym (only_element (shift size) e)) ∙ pack-bit _ i l ∙ ap (eqb i) (sym at)))
       ∙ test_live vl size v w masked (next_result size v dn vl)
-
--- ---- INCP and DECP
-
--- a difference that wraps
-pub wrapped : (x n r : ℕ) → n < 2 ^ 16 → x < 2 ^ 64 → r < 2 ^ 64 → (r + n) % 2 ^ 64 ≡ x → r ≡ (x + (2 ^ 64 - n)) % 2 ^ 64
-wrapped x n r h l m e = omega arith
-
-pub dec_is : (d : Bool) (x n r : ℕ) → d ≡ true → n < 2 ^ 16 → x < 2 ^ 64 → r < 2 ^ 64 → (r + n) % 2 ^ 64 ≡ x → r ≡ pick d ((x + (2 ^ 64 - n)) % 2 ^ 64) ((x + n) % 2 ^ 64)
-dec_is d x n r hd h l m e = wrapped x n r h l m e ∙ sym (ap (λ (t : Bool). pick t ((x + (2 ^ 64 - n)) % 2 ^ 64) ((x + n) % 2 ^ 64)) hd)
-
-pub inc_is : (d : Bool) (x n r : ℕ) → d ≡ false → r ≡ (x + n) % 2 ^ 64 → r ≡ pick d ((x + (2 ^ 64 - n)) % 2 ^ 64) ((x + n) % 2 ^ 64)
-inc_is d x n r hd e = e ∙ sym (ap (λ (t : Bool). pick t ((x + (2 ^ 64 - n)) % 2 ^ 64) ((x + n) % 2 ^ 64)) hd)

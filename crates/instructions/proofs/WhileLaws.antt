@@ -101,6 +101,10 @@ span_flags_lem up c n m is =
       | no l ↦ let same : n ≡ m = omega arith in rw (← same) (test_cong every _ _ n (λ e k. past_all up c n e (omega arith) k) ∙ within up n n (omega arith))
     ]
 
+-- so it may be cut off there
+pub span_capped : (up : Bool) (c n m : ℕ) → m ≡ min c n → span_flags up m n ≡ span_flags up c n
+span_capped up c n m is = span_flags_lem up m n m (omega arith) ∙ sym (span_flags_lem up c n m is)
+
 -- ---- the halves of a pair
 
 pub low_half_lem : (n from to e : ℕ) → low_half n (between from to) e ≡ between from (min to n) e
@@ -152,12 +156,12 @@ pub record Halved (held : ℕ → Bool) (N : ℕ) (U : Bool) (k from low_end hig
   pub high : span_of k high_start high_end ≡ pack (spread k (high_half N (while_element U held (2 * N))))
   pub flags : f ≡ nzcv (pred_test every (while_element U held (2 * N)) (2 * N))
 
-pub halved : (held : ℕ → Bool) (n N c : ℕ) (up U : Bool) (k from to low_end high_start high_end f : ℕ) → n ≡ N → up ≡ U → c ≡ count (all_held held) (2 * n)
-    → from ≡ start_of up c (2 * n) → to ≡ end_of up c (2 * n) → low_end ≡ min to n → high_start ≡ from - n → high_end ≡ to - n → f ≡ nzcv (span_flags up c (2 * n))
+pub halved : (held : ℕ → Bool) (m n N c : ℕ) (up U : Bool) (k from to low_end high_start high_end f : ℕ) → m ≡ 2 * n → n ≡ N → up ≡ U → c ≡ count (all_held held) m
+    → from ≡ start_of up c m → to ≡ end_of up c m → low_end ≡ min to n → high_start ≡ from - n → high_end ≡ to - n → f ≡ nzcv (span_flags up c m)
     → Halved held N U k from low_end high_start high_end f
-halved held n N c up U k from to low_end high_start high_end f en eu ec ef et el eh ee eg =
-    let q : between from to ≡ while_element up held (2 * n) = ap₂ between ef et ∙ sym (while_elements held (2 * n) c ec up) in
-    let ends : to ≤ 2 * n = omega (arith, et, end_le up c (2 * n) (omega (arith, held-le held (2 * n), ec))) in
+halved held m n N c up U k from to low_end high_start high_end f em en eu ec ef et el eh ee eg =
+    let q : between from to ≡ while_element up held (2 * n) = ap₂ between ef et ∙ sym (while_elements held m c ec up) ∙ ap (while_element up held) em in
+    let ends : to ≤ 2 * n = omega (arith, et, end_le up c m (omega (arith, held-le held m, ec))) in
     record {
       low =
           ap (span_of k from) el ∙ ap (λ (x : ℕ → Bool). pack (spread k x)) (fun_ext (λ e. sym (low_half_lem n from to e)) ∙ ap (low_half n) q)
@@ -165,5 +169,5 @@ halved held n N c up U k from to low_end high_start high_end f en eu ec ef et el
       high =
           ap₂ (span_of k) eh ee ∙ ap (λ (x : ℕ → Bool). pack (spread k x)) (fun_ext (λ e. sym (high_half_lem n from to e ends)) ∙ ap (high_half n) q)
           ∙ ap₂ (λ (m : ℕ) (t : Bool). pack (spread k (high_half m (while_element t held (2 * m))))) en eu;
-      flags = (spanned held (2 * n) (2 * N) c up U k from to f (ap (λ (m : ℕ). 2 * m) en) eu ec ef et eg).flags;
+      flags = (spanned held m (2 * N) c up U k from to f (em ∙ ap (λ (x : ℕ). 2 * x) en) eu ec ef et eg).flags;
     }

@@ -8,21 +8,17 @@ ghost use Rattle.predicates.specs.PredTest.{nzcv};
 ghost use Rattle.instructions.specs.Counter.{group_of, stored, counter_of, counter_flags, count_above, expanded, while_counter_of, cntp_counter_of};
 ghost use Rattle.instructions.specs.Effect.{computed};
 
-use super::effect::{Computed, gives_p, gives_x};
-use super::whiles::least;
+use super::effect::Computed;
+use super::whiles::{Comparison, Run};
 use bits::Size;
 use predicates::Predicate;
-use scalars::Condition;
 
 // The elements of two vectors, or of four.
 pub fn group(four: bool, vl: u64, size: Size) -> u64
     ensures { result ≡ group_of four (elements vl size) }
 {
     let n = predicates::elements(vl, size);
-    if four {
-        return 4 * n;
-    }
-    2 * n
+    if four { 4 * n } else { 2 * n }
 }
 
 // A count above the mark of its size.
@@ -33,74 +29,68 @@ fn marked(n: u64, size: Size) -> u64
     (n * 2 + 1) << size.shift()
 }
 
-fn counter(up: bool, g: u64, n: u64, size: Size) -> u64
-    requires { (n ≤ g) × (g ≤ 1024) }
-    ensures { result ≡ counter_of up g n (shift size) }
+// The elements of a group that are true, as they are stored.
+#[tactic(auto, unfolding(crate::specs::Counter::counter_of))]
+fn counter(run: Run, size: Size) -> u64
+    requires { run.n ≤ 1024 }
+    ensures { result ≡ counter_of run.up run.n run.held (shift size) }
 {
-    if n == 0 {
+    if run.held == 0 {
         return 0;
     }
-    if !up {
-        return 0x8000 + marked(g - n, size);
+    if !run.up {
+        return 0x8000 + marked(run.n - run.held, size);
     }
-    if n == g {
+    if run.held == run.n {
         return 0x8000 + marked(0, size);
     }
-    marked(n, size)
+    marked(run.held, size)
 }
 
-fn counter_flags(up: bool, g: u64, n: u64) -> u64
-    ensures { result ≡ nzcv (counter_flags up g n) }
+#[tactic(auto, unfolding(crate::specs::Counter::counter_flags))]
+fn counter_flags(run: Run) -> u64
+    ensures { result ≡ nzcv (counter_flags run.up run.n run.held) }
 {
-    if up {
-        return predicates::nzcv(n != 0, n == 0, n != g);
+    let none = run.held == 0;
+    if run.up {
+        return predicates::nzcv(!none, none, run.held != run.n);
     }
-    predicates::nzcv(n == g, n == 0, n == 0)
+    predicates::nzcv(run.held == run.n, none, none)
 }
 
 // WHILE into a counter: how many elements of a group are true.
-pub fn while_counter(
-    condition: Condition,
-    unsigned: bool,
-    four: bool,
-    size: Size,
-    rn: u64,
-    rm: u64,
-    vl: u64,
-) -> Computed
-    ensures { result ≡ computed (while_counter_of condition unsigned four size rn rm vl) }
+pub fn while_counter(compared: Comparison, four: bool, size: Size, vl: u64) -> Computed
+    ensures { result ≡ computed (while_counter_of compared.condition compared.unsigned four size compared.rn compared.rm vl) }
 {
-    let g = group(four, vl, size);
-    let n = scalars::held(condition, unsigned, true, rn, rm, g);
-    let up = scalars::counts_up(condition);
-    let q = Predicate::of_word(counter(up, g, n, size));
-    gives_p(q, counter_flags(up, g, n))
+    let run = compared.run(true, group(four, vl, size));
+    Computed::flagged(Predicate::of_word(counter(run, size)), counter_flags(run))
 }
 
 // CNTP of a counter: of the elements of two vectors, or of four.
+#[tactic(auto, unfolding(crate::specs::Counter::cntp_counter_of))]
 pub fn cntp_counter(four: bool, size: Size, pn: Predicate, vl: u64) -> Computed
     ensures { result ≡ computed (cntp_counter_of four size pn vl) }
 {
     let g = group(four, vl, size);
-    gives_x(count_expanded(pn, size, g, vl))
+    Computed::number(count_expanded(pn, size, g, vl))
 }
 
 // How many of the first `g` elements of a size an expanded counter has. An element of the mark's size counts where one of that size
 // starts as well, which is where one of the larger of the two does.
+#[tactic(auto, using(crate::proofs::CounterLaws::end_fits, crate::proofs::CounterLaws::held_fits, crate::proofs::CounterLaws::larger_lt, crate::proofs::CounterLaws::fewer))]
 fn count_expanded(p: Predicate, size: Size, g: u64, vl: u64) -> u64
     requires { g ≤ 1024 }
     ensures { result ≡ count (λ e. expanded vl p (e * 2 ^ shift size)) g }
 {
-    let words = p.words;
-    let word = words[0];
+    let word = p.words[0];
     let mark = bits::lowest_bit(word);
     if 4 <= mark {
         return 0;
     }
     let k = size.shift();
-    let larger = greatest(k, mark);
-    let end = least(g << k, mark_end(mark, vl));
-    let n = starts_below(least(end, count_above(p, mark, vl) << mark), larger);
+    let larger = k.max(mark);
+    let end = (g << k).min(mark_end(mark, vl));
+    let n = starts_below(end.min(count_above(p, mark, vl) << mark), larger);
     if (word >> 15) % 2 == 1 {
         return starts_below(end, larger) - n;
     }
@@ -120,9 +110,8 @@ fn count_above(p: Predicate, mark: u64, vl: u64) -> u64
     requires { mark < 4 }
     ensures { result ≡ count_above vl mark p }
 {
-    let words = p.words;
     let length = bits::bit_length(4 * predicates::predicate_length(vl));
-    (words[0] % (1 << length)) >> (mark + 1)
+    (p.words[0] % (1 << length)) >> (mark + 1)
 }
 
 // How many elements of 2 ^ k bits start below bit `b`: a division that rounds up.
@@ -131,11 +120,4 @@ fn starts_below(b: u64, k: u64) -> u64
     ensures { result ≡ count (element_bit k) b }
 {
     (b + ((1 << k) - 1)) >> k
-}
-
-// The larger of two.
-fn greatest(x: u64, n: u64) -> u64
-    ensures { result ≡ max x n }
-{
-    if x < n { n } else { x }
 }

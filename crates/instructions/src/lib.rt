@@ -19,18 +19,16 @@ use bits::Size;
 pub use effect::Computed;
 pub use ffr::accepts;
 pub use operands::{Registers, Values, registers_of};
-use scalars::Condition;
+use predicates::Predicate;
+use whiles::Comparison;
 pub use whiles::while_flags;
 use words::{Instruction, Target};
 
-// What an instruction gives.
+// What an instruction gives. WRFFR and RDFFR have an arm each: one for both is tested apart from the others, and slows them.
+#[tactic(auto, unfolding(crate::specs::Instructions::compute_of))]
 pub fn compute(i: Instruction, v: Values, vl: u64) -> Computed
     ensures { result ≡ computed (compute_of i v vl) }
 {
-    let pg = v.pg;
-    let pn = v.pn;
-    let pm = v.pm;
-    let kept = v.counts;
     match i {
         Instruction::While {
             condition,
@@ -38,54 +36,44 @@ pub fn compute(i: Instruction, v: Values, vl: u64) -> Computed
             target,
             size,
             ..
-        } => while_target(condition, unsigned, target, size, v.rn, v.rm, vl),
+        } => while_target(Comparison::of(condition, unsigned, v), target, size, vl),
         Instruction::Saturating {
             decrement,
             unsigned,
             wide,
             size,
             ..
-        } => counts::saturating(decrement, unsigned, wide, v.rn, kept.at(size)),
+        } => counts::saturating(decrement, unsigned, wide, v.rn, v.counts.at(size)),
         Instruction::IncDec {
             decrement,
             size,
             ..
-        } => counts::inc_dec(decrement, v.rn, kept.at(size)),
-        Instruction::Cntp { size, .. } => counts::cntp(size, pg, pn, vl),
-        Instruction::CntpCounter { four, size, .. } => counter::cntp_counter(four, size, pn, vl),
-        Instruction::Pnext { size, .. } => searches::pnext(size, pg, pn, vl),
-        Instruction::Pfirst { .. } => searches::pfirst(pg, pn, vl),
-        Instruction::Ptest { .. } => searches::ptest(pg, pn, vl),
-        Instruction::Pfalse { .. } => searches::pfalse(),
+        } => counts::inc_dec(decrement, v.rn, v.counts.at(size)),
+        Instruction::Cntp { size, .. } => counts::cntp(size, v.pg, v.pn, vl),
+        Instruction::CntpCounter { four, size, .. } => counter::cntp_counter(four, size, v.pn, vl),
+        Instruction::Pnext { size, .. } => searches::pnext(size, v.pg, v.pn, vl),
+        Instruction::Pfirst { .. } => searches::pfirst(v.pg, v.pn, vl),
+        Instruction::Ptest { .. } => searches::ptest(v.pg, v.pn, vl),
+        Instruction::Pfalse { .. } => Computed::predicate(Predicate::none()),
         Instruction::Logic {
             operation,
             flags,
             ..
-        } => logic::logic(operation, flags, pg, pn, pm, vl),
+        } => logic::logic(operation, flags, v.pg, v.pn, v.pm, vl),
         Instruction::Setffr => ffr::setffr(vl),
-        Instruction::Wrffr { .. } => ffr::moved(pn),
-        Instruction::Rdffr { .. } => ffr::moved(pn),
-        Instruction::RdffrPg { .. } => ffr::rdffr_pg(pg, pn),
-        Instruction::RdffrsPg { .. } => ffr::rdffrs_pg(pg, pn, vl),
+        Instruction::Wrffr { .. } => Computed::predicate(v.pn),
+        Instruction::Rdffr { .. } => Computed::predicate(v.pn),
+        Instruction::RdffrPg { .. } => ffr::rdffr_pg(v.pg, v.pn),
+        Instruction::RdffrsPg { .. } => ffr::rdffrs_pg(v.pg, v.pn, vl),
     }
 }
 
-fn while_target(
-    condition: Condition,
-    unsigned: bool,
-    target: Target,
-    size: Size,
-    rn: u64,
-    rm: u64,
-    vl: u64,
-) -> Computed
-    ensures { result ≡ computed (while_of condition unsigned target size rn rm vl) }
+fn while_target(compared: Comparison, target: Target, size: Size, vl: u64) -> Computed
+    ensures { result ≡ computed (while_of compared.condition compared.unsigned target size compared.rn compared.rm vl) }
 {
     match target {
-        Target::One { wide, .. } => whiles::while_one(condition, unsigned, wide, size, rn, rm, vl),
-        Target::Pair { .. } => whiles::while_pair(condition, unsigned, size, rn, rm, vl),
-        Target::Counter { four, .. } => counter::while_counter(
-            condition, unsigned, four, size, rn, rm, vl,
-        ),
+        Target::One { wide, .. } => whiles::while_one(compared, wide, size, vl),
+        Target::Pair { .. } => whiles::while_pair(compared, size, vl),
+        Target::Counter { four, .. } => counter::while_counter(compared, four, size, vl),
     }
 }

@@ -3,8 +3,7 @@ ghost use Rattle.std.specs.Prelude.{◌≡◌};
 ghost use Rattle.instructions.specs.Effect.{computed};
 ghost use Rattle.instructions.specs.Logic.{logic_result, logic_of};
 
-use super::effect::{Computed, gives_p};
-use bits::Size;
+use super::effect::Computed;
 use predicates::Predicate;
 use words::Operation;
 
@@ -26,6 +25,7 @@ fn result(operation: Operation, pg: Predicate, pn: Predicate, pm: Predicate) -> 
 }
 
 // `flags` tells whether they are set, by PredTest over bytes under Pg as it was read.
+#[tactic(auto, unfolding(crate::specs::Logic::logic_of))]
 pub fn logic(
     operation: Operation,
     flags: bool,
@@ -37,9 +37,8 @@ pub fn logic(
     ensures { result ≡ computed (logic_of operation flags pg pn pm vl) }
 {
     let q = result(operation, pg, pn, pm);
-    if !flags {
-        return gives_p(q, 0);
+    if flags {
+        return Computed::tested(q, pg, vl);
     }
-    let live = Predicate::live(vl, Size::B);
-    gives_p(q, predicates::test_bits(pg.and(live), q))
+    Computed::predicate(q)
 }

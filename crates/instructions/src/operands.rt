@@ -7,11 +7,11 @@ use registers::FFR;
 use tally::Counts;
 use words::{Instruction, Target};
 
-// The number that stands for no register: it is past all of them.
+// The number that stands for no register. No Option: it is past all of them, so a read by it gives zero and a write by it vanishes, with no test of its own.
 const NONE: u8 = 255;
 
 // The numbers of registers. Those of numbers are whole words, so that none is packed beside another.
-#[derive(Clone, Copy)]
+#[derive(Clone, Copy, PartialEq, Eq, Debug)]
 pub struct Registers {
     // Read: Rn and Rm; Pg (PNEXT's Pv too), Pn (a Pdn too, and FFR where it is read) and Pm, with its counts.
     pub rn: u64,
@@ -38,21 +38,30 @@ pub struct Values {
     pub rm: u64,
 }
 
+// No register, and the flags kept.
+const NO_REGISTERS: Registers = Registers {
+    rn: NONE as u64,
+    rm: NONE as u64,
+    pg: NONE as u64,
+    pn: NONE as u64,
+    pm: NONE as u64,
+    rd: NONE as u64,
+    pd: NONE as u64,
+    pd2: NONE as u64,
+    flags: false,
+};
+
 // WHILE: two numbers are compared, one or two predicates and the flags written.
 fn comparing(rn: u8, rm: u8, pd: u64, pd2: u64) -> Registers
     ensures { result ≡ record { rn = rn; rm = rm; pg = none; pn = none; pm = none; rd = none; pd = pd; pd2 = pd2; flags = true } }
 {
-    let no = NONE as u64;
     Registers {
-        rn: rn as u64,
-        rm: rm as u64,
-        pg: no,
-        pn: no,
-        pm: no,
-        rd: no,
+        rn: u64::from(rn),
+        rm: u64::from(rm),
         pd,
         pd2,
         flags: true,
+        ..NO_REGISTERS
     }
 }
 
@@ -60,17 +69,13 @@ fn comparing(rn: u8, rm: u8, pd: u64, pd2: u64) -> Registers
 fn counting(rn: u8, pg: u8, pn: u8, pm: u8, rd: u8) -> Registers
     ensures { result ≡ record { rn = rn; rm = none; pg = pg; pn = pn; pm = pm; rd = rd; pd = none; pd2 = none; flags = false } }
 {
-    let no = NONE as u64;
     Registers {
-        rn: rn as u64,
-        rm: no,
-        pg: pg as u64,
-        pn: pn as u64,
-        pm: pm as u64,
-        rd: rd as u64,
-        pd: no,
-        pd2: no,
-        flags: false,
+        rn: u64::from(rn),
+        pg: u64::from(pg),
+        pn: u64::from(pn),
+        pm: u64::from(pm),
+        rd: u64::from(rd),
+        ..NO_REGISTERS
     }
 }
 
@@ -78,17 +83,13 @@ fn counting(rn: u8, pg: u8, pn: u8, pm: u8, rd: u8) -> Registers
 fn masking(pg: u8, pn: u8, pm: u8, pd: u8, flags: bool) -> Registers
     ensures { result ≡ record { rn = none; rm = none; pg = pg; pn = pn; pm = pm; rd = none; pd = pd; pd2 = none; flags = flags } }
 {
-    let no = NONE as u64;
     Registers {
-        rn: no,
-        rm: no,
-        pg: pg as u64,
-        pn: pn as u64,
-        pm: pm as u64,
-        rd: no,
-        pd: pd as u64,
-        pd2: no,
+        pg: u64::from(pg),
+        pn: u64::from(pn),
+        pm: u64::from(pm),
+        pd: u64::from(pd),
         flags,
+        ..NO_REGISTERS
     }
 }
 
@@ -96,9 +97,9 @@ fn target_of(t: Target) -> u64
     ensures { result ≡ target_of t }
 {
     match t {
-        Target::One { pd, .. } => pd as u64,
-        Target::Pair { pd } => 2 * (pd as u64),
-        Target::Counter { pnd, .. } => 8 + (pnd as u64),
+        Target::One { pd, .. } => u64::from(pd),
+        Target::Pair { pd } => 2 * u64::from(pd),
+        Target::Counter { pnd, .. } => 8 + u64::from(pnd),
     }
 }
 
@@ -106,9 +107,8 @@ fn second_target_of(t: Target) -> u64
     ensures { result ≡ second_target_of t }
 {
     match t {
-        Target::One { .. } => NONE as u64,
-        Target::Pair { pd } => 2 * (pd as u64) + 1,
-        Target::Counter { .. } => NONE as u64,
+        Target::Pair { pd } => 2 * u64::from(pd) + 1,
+        Target::One { .. } | Target::Counter { .. } => u64::from(NONE),
     }
 }
 
@@ -123,8 +123,9 @@ pub fn registers_of(i: Instruction) -> Registers
             rm,
             ..
         } => comparing(rn, rm, target_of(t), second_target_of(t)),
-        Instruction::Saturating { pm, rdn, .. } => counting(rdn, NONE, NONE, pm, rdn),
-        Instruction::IncDec { pm, rdn, .. } => counting(rdn, NONE, NONE, pm, rdn),
+        Instruction::Saturating { pm, rdn, .. } | Instruction::IncDec { pm, rdn, .. } => {
+            counting(rdn, NONE, NONE, pm, rdn)
+        }
         Instruction::Cntp { pg, pn, rd, .. } => counting(NONE, pg, pn, NONE, rd),
         Instruction::CntpCounter { pnn, rd, .. } => counting(NONE, NONE, pnn, NONE, rd),
         Instruction::Pnext { pv, pdn, .. } => masking(pv, pdn, NONE, pdn, true),

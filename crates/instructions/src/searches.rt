@@ -1,10 +1,9 @@
-// PNEXT, PFIRST, PTEST and PFALSE.
+// PNEXT, PFIRST and PTEST.
 ghost use Rattle.std.specs.Prelude.{◌≡◌};
-ghost use Rattle.predicates.specs.Predicate.{all_false};
-ghost use Rattle.instructions.specs.Effect.{computed, gives_p};
+ghost use Rattle.instructions.specs.Effect.{computed};
 ghost use Rattle.instructions.specs.Searches.{first_result, pnext_of, pfirst_of, ptest_of};
 
-use super::effect::{Computed, gives_p};
+use super::effect::Computed;
 use bits::Size;
 use predicates::Predicate;
 
@@ -16,10 +15,10 @@ pub fn pnext(size: Size, pv: Predicate, pdn: Predicate, vl: u64) -> Computed
     let live = Predicate::live(vl, size);
     let e = pv.next_active(size, pdn.and(live).end_element(size), n);
     if n <= e {
-        return gives_p(Predicate::none(), predicates::nzcv(false, true, true));
+        return Computed::flagged(Predicate::none(), predicates::nzcv(false, true, true));
     }
     let flags = predicates::test_only(pv.and(live), e << size.shift());
-    gives_p(Predicate::only_element(size, e), flags)
+    Computed::flagged(Predicate::only_element(size, e), flags)
 }
 
 fn first(pg: Predicate, pdn: Predicate, vl: u64) -> Predicate
@@ -33,26 +32,20 @@ fn first(pg: Predicate, pdn: Predicate, vl: u64) -> Predicate
 }
 
 // PFIRST, by bytes.
+#[tactic(auto, unfolding(crate::specs::Searches::pfirst_of))]
 pub fn pfirst(pg: Predicate, pdn: Predicate, vl: u64) -> Computed
     ensures { result ≡ computed (pfirst_of pg pdn vl) }
 {
-    let q = first(pg, pdn, vl);
-    gives_p(q, predicates::pred_test(pg, q, vl, Size::B))
+    Computed::tested(first(pg, pdn, vl), pg, vl)
 }
 
 // PTEST, by bytes.
+#[tactic(auto, unfolding(crate::specs::Searches::ptest_of))]
 pub fn ptest(pg: Predicate, pn: Predicate, vl: u64) -> Computed
     ensures { result ≡ computed (ptest_of pg pn vl) }
 {
-    gives_p(
+    Computed::flagged(
         Predicate::none(),
         predicates::pred_test(pg, pn, vl, Size::B),
     )
-}
-
-// PFALSE.
-pub fn pfalse() -> Computed
-    ensures { result ≡ computed (gives_p all_false) }
-{
-    gives_p(Predicate::none(), 0)
 }

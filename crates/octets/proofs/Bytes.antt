@@ -1,16 +1,18 @@
 -- Laws of bytes, of parts and of runs of stores, each once over the size of a part. Assumes nothing.
 use mathlib.Core.List.{List, [], ◌∷◌, ◌++◌, append_assoc, append-nil}
 use mathlib.Core.Path.{◌≡◌, refl, sym, ap, ◌∙◌, subst}
-use Prim.Native.Nat.{ℕ, zero, suc, ◌+◌, ◌-◌, ◌*◌, ◌/◌, ◌%◌, ◌^◌, ◌≤◌, ◌<◌, min}
-use native.Mathlib.Nat.{le_of_lt, le_of_eq, le_trans, sub-zero, add-zero, add-suc, suc-add, add_assoc, add_comm, mul-le-mul, mul-le-mul_right, zero-mul, suc-mul, pow-suc, div-add-mod', div-lt_iff_lt-mul, lt_of_lt_of_le, pow-le-pow_right}
+use Prim.Native.Nat.{ℕ, zero, suc, ◌+◌, ◌-◌, ◌*◌, ◌/◌, ◌%◌, ◌^◌, ◌≤◌, ◌<◌}
+use native.Mathlib.Nat.{sub-zero, add-zero, add-suc, suc-add, add_assoc, add_comm, mul_assoc, mul-le-mul, zero-mul, suc-mul, pow-suc, div-add-mod', div-lt_iff_lt-mul, lt_of_lt_of_le, pow-le-pow_right}
 use native.Mathlib.Numerals.{add-one}
 use native.Mathlib.Omega.{arith}
 use lib.Arith.{digits_div, digits_mod, digits_lt}
 use lib.Dec.{lit<}
-use lib.ListN.{length, take, drop, get_or, set, length-append, length-take, length-drop, drop_of_length-le, get_or-eq_default}
-use lib.Seq.{take_at, drop_at, take-add, take_all, drop-drop, drop-cons, get_or-drop, length-take-le, sets, sets-eq}
+use lib.ListN.{length, take, drop, get_or, set, length-append, length-take, length-drop, drop_of_length-le}
+use lib.Seq.{take_at, drop_at, take-add, drop-drop, drop-cons, get_or-drop, length-take-le, sets, sets-eq}
 use mir.Syntax.{w8}
 use mir.Val.{Fits}
+use lib.ListN.{replicate}
+use Rattle.std.specs.Int.{sum_through, byte_worth}
 use Rattle.octets.specs.Bytes.{le, value, parts, joined, over, AreBytes}
 
 pub bytes_take : (k : ℕ) (bs : List ℕ) → AreBytes bs → AreBytes (take k bs)
@@ -27,27 +29,8 @@ bytes_of bs h i = (h i).fits
 
 -- ---- what is left of a slice
 
-pub past_end : (bs : List ℕ) (i : ℕ) → length bs ≤ i → 0 ≡ get_or bs i 0
-past_end bs i h = sym (get_or-eq_default bs 0 h)
-
-pub rest_none : (bs : List ℕ) (n : ℕ) → length bs < n → take (length bs - length bs) (drop (length bs) bs) ≡ drop n bs
-rest_none bs n h = let e : length bs - length bs ≡ 0 = omega arith in rw e (sym (drop_of_length-le bs (le_of_lt h)))
-
-pub rest_some : (bs : List ℕ) (n : ℕ) → take (length bs - n) (drop n bs) ≡ drop n bs
-rest_some bs n = take_all (length bs - n) (drop n bs) (le_of_eq (length-drop n bs))
-
-pub part_short : (bs rest : List ℕ) (at n : ℕ) → rest ≡ drop at bs → length rest < n → rest ≡ take n (drop at bs)
-part_short bs rest at n e h = sym (take_all n rest (le_of_lt h)) ∙ ap (take n) e
-
 pub part_count : (rest : List ℕ) (n : ℕ) → n ≤ length rest → n ≡ length (take n rest)
 part_count rest n h = sym (length-take-le n rest h)
-
-pub part_below : (l r : List ℕ) (n m : ℕ) → r ≡ take n l → n ≤ m → length r ≤ m
-part_below l r n m e h = le_trans (subst (λ (k : ℕ). k ≤ n) (sym (ap length e ∙ length-take n l)) (omega arith)) h
-
--- at most eight bytes
-pub part_few : (l r : List ℕ) (n m : ℕ) → r ≡ take m l → m ≡ min n 8 → length r ≤ 8
-part_few l r n m e h = part_below l r m 8 e (omega arith)
 
 -- ---- numbers
 
@@ -84,10 +67,41 @@ part_lt bs r n at k b e v =
     let l : length (take k (drop at bs)) ≤ k = simp length-take (omega arith) in
     rw (v, e) (value-below k (take k (drop at bs)) l (bytes_take k (drop at bs) (bytes_drop at bs b)))
 
--- one byte more, in front
-pub value-cons : (bs : List ℕ) (i : ℕ) → i < length bs → value (drop i bs) ≡ value (drop (suc i) bs) * 256 + get_or bs i 0
+-- the sum of what each byte is worth
+sum-low : (f : ℕ → ℕ) (k : ℕ) → sum_through f (suc k) ≡ f 0 + sum_through (λ i. f (suc i)) k
+sum-low f zero = refl
+sum-low f (suc k) = omega (arith, sum-low f k)
+
+sum-scaled : (f g : ℕ → ℕ) (k : ℕ) → ((i : ℕ) → f i ≡ g i * 256) → sum_through f k ≡ sum_through g k * 256
+sum-scaled f g zero h = h 0
+sum-scaled f g (suc k) h = omega (arith, sum-scaled f g k h, h (suc k))
+
+worth-suc : (i b : ℕ) → byte_worth (suc i) b ≡ byte_worth i b * 256
+worth-suc zero b = refl
+worth-suc (suc i) b = rw (pow-suc, ← mul_assoc)
+
+pub sum-worths : (k : ℕ) (bs : List ℕ) → length bs ≡ suc k → sum_through (λ i. byte_worth i (get_or bs i 0)) k ≡ value bs
 unfolding value
-value-cons bs i h = ap value (drop-cons bs i 0 h)
+sum-worths zero [] h = absurd (omega arith)
+sum-worths zero (b ∷ []) h = omega arith
+sum-worths zero (b ∷ a ∷ bs) h = absurd (omega arith)
+sum-worths (suc k) [] h = absurd (omega arith)
+sum-worths (suc k) (b ∷ bs) h =
+    let rest = sum-scaled (λ i. byte_worth (suc i) (get_or bs i 0)) (λ i. byte_worth i (get_or bs i 0)) k (λ i. worth-suc i (get_or bs i 0)) in
+    sum-low (λ i. byte_worth i (get_or (b ∷ bs) i 0)) k ∙ rw (rest, sum-worths k bs (omega arith)) (omega arith)
+
+-- zeros past the last byte add nothing
+pub value-zeros : (n k : ℕ) → value (drop n (replicate k 0)) ≡ 0
+unfolding value
+value-zeros zero zero = refl
+value-zeros zero (suc k) = rw (value-zeros zero k)
+value-zeros (suc n) zero = refl
+value-zeros (suc n) (suc k) = value-zeros n k
+
+pub value-padded : (bs zeros : List ℕ) → value zeros ≡ 0 → value (bs ++ zeros) ≡ value bs
+unfolding value
+value-padded [] zeros h = h
+value-padded (b ∷ bs) zeros h = ap (λ (n : ℕ). n * 256 + b) (value-padded bs zeros h)
 
 -- ---- stores
 
@@ -106,10 +120,7 @@ sets_all l vs n e d =
     let r : drop (0 + length vs) l ≡ [] = drop_of_length-le l {i = 0 + length vs} (omega arith) in
     sets-eq vs l 0 h ∙ rw r (append-nil vs)
 
--- the turns of a loop that stores the bytes of a number: what is left to store
-pub le_start : (l : List ℕ) (at k v : ℕ) → sets l (at + 0) (le (k - 0) v) ≡ sets l at (le k v)
-le_start l at k v = rw (add-zero, sub-zero)
-
+-- a turn of a loop that stores the bytes of a number: what is left to store
 pub le-turn : (l : List ℕ) (at i k x : ℕ) → i < k → sets (set l (at + i) (x % 256)) (at + (i + 1)) (le (k - (i + 1)) (x / 256)) ≡ sets l (at + i) (le (k - i) x)
 unfolding le
 le-turn l at i k x h = let d : k - i ≡ suc (k - (i + 1)) = omega arith in rw (d, add-one, add-suc)
@@ -121,9 +132,6 @@ le_end l at i k x h = let d : k - i ≡ 0 = omega arith in rw d
 -- what a product of two small numbers is below
 pub small : (n m : ℕ) → n ≤ 4096 → m ≤ 4096 → n * m ≤ 16777216
 small n m h k = mul-le-mul h k
-
-pub within : (i n k : ℕ) → i < n → i * k + k ≤ n * k
-within i n k h = rw suc-mul at (mul-le-mul_right k h)
 
 -- ---- parts
 
@@ -187,9 +195,6 @@ module _ {A : Type 0} (g : A → List ℕ) (k : ℕ) (len : (x : A) → length (
   put_turn l m at i xs d h w =
       let e : at + (i + 1) * k ≡ at + i * k + length (g (get_or xs i d)) = rw (len, add-one, suc-mul, add_assoc) in
       rw (w, e, add-one, drop-cons xs i d h) (sym (sets_append l (at + i * k) (g (get_or xs i d)) (joined g (drop (suc i) xs))))
-
-  pub put_start : (l : List ℕ) (at : ℕ) (xs : List A) → sets l (at + 0 * k) (joined g (drop 0 xs)) ≡ sets l at (joined g xs)
-  put_start l at xs = rw (zero-mul, add-zero)
 
   pub put_end : (l : List ℕ) (at i : ℕ) (xs : List A) → length xs ≤ i → sets l (at + i * k) (joined g (drop i xs)) ≡ l
   unfolding joined

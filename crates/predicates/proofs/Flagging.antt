@@ -1,13 +1,12 @@
 -- Laws of flags as numbers, and of PredTest's parts. Assumes nothing.
 use mathlib.Core.Bool.{Bool, true, false, not, ◌&&◌, and-false}
 use mathlib.Core.Path.{◌≡◌, refl, sym, ap, ap₂, ◌∙◌}
-use Prim.Native.Nat.{ℕ, ◌+◌, ◌-◌, ◌*◌, ◌<◌}
+use Prim.Native.Nat.{ℕ, ◌+◌, ◌-◌, ◌<◌}
 use native.Mathlib.Decide.{dec_lt, ℕ_discrete}
 use native.Mathlib.Omega.{arith}
 use lib.Dec.{ltb, eqb}
 use borrow.Author.Tests.{lt-ltb, le-ltb, eq-eqb, ne_eqb}
 use Rattle.bits.specs.Bits.{test_bit}
-use Rattle.bits.specs.Choice.{digit}
 use Rattle.bits.specs.Search.{some, after_last, first_from}
 use Rattle.bits.proofs.Searches.{never, some_yes, some_no, some_cong, last_found, last_le, first_found}
 use Rattle.predicates.specs.declared.Flags.{Flags}
@@ -49,11 +48,6 @@ pub tests : (m r : Predicate) (n z c : Bool) → n ≡ at_lowest (bit_at m) (bit
     → record { n = n; z = z; c = not c; v = false } ≡ pred_test (bit_at m) (bit_at r) 256
 unfolding pred_test
 tests m r n z c hn hz hc = flags_are hn (hz ∙ ap not (some_cong _ _ 256 (λ b h. pack-bit _ b h))) (ap not hc)
-
-pub number_of : (n z c : Bool) (a b d : ℕ) → a ≡ digit n → b ≡ digit z → d ≡ digit c
-    → a * 8 + b * 4 + d * 2 ≡ nzcv (record { n = n; z = z; c = c; v = false })
-unfolding nzcv
-number_of n z c a b d ha hb hd = rw (ha, hb, hd) (omega arith)
 
 -- PredTest looks at the result's elements below n alone
 module _ (m r q : ℕ → Bool) (n : ℕ) (same : (e : ℕ) → e < n → r e ≡ q e) where

@@ -1,7 +1,7 @@
 -- Laws of spans of elements: what they count, where they begin and end, their flags under an all-true mask, and that they stay within PL. Assumes nothing.
 use mathlib.Core.Bool.{Bool, true, false, not, ◌&&◌, and-false}
 use mathlib.Core.Path.{◌≡◌, refl, sym, ap, ◌∙◌}
-use Prim.Native.Nat.{ℕ, zero, suc, ◌-◌, ◌*◌, ◌/◌, ◌^◌, ◌≤◌, ◌<◌, zero-le, min}
+use Prim.Native.Nat.{ℕ, zero, suc, ◌-◌, ◌*◌, ◌/◌, ◌^◌, ◌≤◌, ◌<◌, min}
 use native.Mathlib.Decide.{dec_lt, ℕ_discrete}
 use native.Mathlib.Nat.{le-div_iff_mul-le}
 use native.Mathlib.Omega.{arith}
@@ -54,16 +54,6 @@ count-span from to (suc n) =
 pub first_in_span : (from to start n : ℕ) → from ≤ start → start < to → start < n → first_from (between from to) start n ≡ start
 first_in_span from to start n h l m = first_hit (between from to) start n m (between_yes from to start h l)
 
--- from before the span on, the first is where it begins
-pub first-of-span : (from to start n : ℕ) → start ≤ from → from < to → to ≤ n → first_from (between from to) start n ≡ from
-first-of-span from to start n h l m =
-    sym (first_is (between from to) start n from (record {
-      from = h;
-      upto = omega arith;
-      none = λ e a b. between_before from to e b;
-      hit = λ a. between_yes from to from (omega arith) l;
-    }))
-
 -- from the end of the span on, there is none
 pub first-past-span : (from to start n : ℕ) → to ≤ start → start ≤ n → first_from (between from to) start n ≡ n
 first-past-span from to start n h l =
@@ -74,25 +64,9 @@ first-past-span from to start n h l =
       hit = λ a. absurd (omega arith);
     }))
 
-pub last_of-span : (from to n : ℕ) → from < to → to ≤ n → after_last (between from to) n ≡ to
-last_of-span from to n h l =
-    sym (last_is (between from to) n to (record {
-      upto = l;
-      none = λ e a b. between-after from to e a;
-      hit = λ e s. between_yes from to e (omega arith) (omega arith);
-    }))
-
 no_element : (from to e : ℕ) → to ≤ from → between from to e ≡ false
 no_element from to e h =
     elim (dec_lt e from) [ yes l ↦ between_before from to e l | no l ↦ between-after from to e (omega arith) ]
-
-pub last_of-none : (from to n : ℕ) → to ≤ from → after_last (between from to) n ≡ 0
-last_of-none from to n h =
-    sym (last_is (between from to) n 0 (record {
-      upto = zero-le;
-      none = λ e a b. no_element from to e h;
-      hit = λ e s. absurd (omega arith);
-    }))
 
 -- the only element of a predicate
 pub last_of_one : (e n : ℕ) → e < n → after_last (λ i. eqb i e) n ≡ suc e

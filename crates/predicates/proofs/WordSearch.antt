@@ -15,10 +15,10 @@ use borrow.Author.Tests.{lt-ltb, le-leb, lt-leb, leb-true, eq-eqb, ne_eqb}
 use Rattle.bits.specs.Bits.{test_bit, number, element_bit}
 use Rattle.bits.specs.Search.{count, some, first_from, after_last}
 use Rattle.bits.proofs.Bits.{number-none, number-whole, test_bit-zero, test_bit-number, test_bit-and, test_bit-from}
-use Rattle.bits.proofs.Searches.{never, count_add, count_cong, count_none, some_yes, some_no, First, first_found, first_is, first_cong, Last, last_found, last_is, last_le}
+use Rattle.bits.proofs.Searches.{never, count_add, count_cong, count_none, some_yes, some_no, first_found, first_is, first_cong, last_found, last_is, last_le}
 use Rattle.bits.proofs.Sizes.{element_again}
 use Rattle.predicates.specs.declared.Predicate.{Predicate}
-use Rattle.predicates.specs.PredTest.{at_lowest, at_highest}
+use Rattle.predicates.specs.PredTest.{at_highest}
 use Rattle.predicates.specs.Predicate.{bit_at, active, spread}
 use Rattle.predicates.specs.Words.{Words}
 use Rattle.predicates.proofs.ElementBits.{at_start}
@@ -26,24 +26,24 @@ use Rattle.predicates.proofs.Words.{word, bit_in_word, bit-of-none}
 
 -- ---- words that are 0
 
--- the words below q, and those above it
+-- the words below q, and those from q on
 abbrev pub Below : Predicate → ℕ → Type 0
 Below p q = (j : ℕ) → j < q → word p j ≡ 0
 
-abbrev pub Above : Predicate → ℕ → Type 0
-Above p q = (j : ℕ) → q < j → word p j ≡ 0
+abbrev pub From : Predicate → ℕ → Type 0
+From p q = (j : ℕ) → q ≤ j → word p j ≡ 0
 
 pub below-zero : (p : Predicate) → Below p 0
 below-zero p j h = absurd (omega arith)
 
-pub below_suc : (p : Predicate) (q : ℕ) → Below p q → word p q ≡ 0 → Below p (suc q)
-below_suc p q h e j l = elim (dec_lt j q) [ yes k ↦ h j k | no k ↦ let s : j ≡ q = omega arith in ap (word p) s ∙ e ]
+pub below_next : (p : Predicate) (q : ℕ) → Below p q → word p q ≡ 0 → Below p (q + 1)
+below_next p q h e j l = elim (dec_lt j q) [ yes k ↦ h j k | no k ↦ let s : j ≡ q = omega arith in ap (word p) s ∙ e ]
 
-pub above_three : (p : Predicate) → Words p → Above p 3
-above_three p ok j h = get_or-eq_default p.words 0 (omega (arith, ok.four))
+pub from_four : (p : Predicate) → Words p → From p 4
+from_four p ok j h = get_or-eq_default p.words 0 (omega (arith, ok.four))
 
-pub above_pred : (p : Predicate) (q : ℕ) → Above p (suc q) → word p (suc q) ≡ 0 → Above p q
-above_pred p q h e j l = elim (dec_lt (suc q) j) [ yes k ↦ h j k | no k ↦ let s : j ≡ suc q = omega arith in ap (word p) s ∙ e ]
+pub from_pred : (p : Predicate) (q : ℕ) → From p q → word p (q - 1) ≡ 0 → From p (q - 1)
+from_pred p q h e j l = elim (dec_lt (q - 1) j) [ yes k ↦ h j (omega arith) | no k ↦ let s : j ≡ q - 1 = omega arith in ap (word p) s ∙ e ]
 
 -- a word with no bit set is 0
 zero_word : (w : ℕ) → w < 2 ^ 64 → ((i : ℕ) → i < 64 → test_bit w i ≡ false) → w ≡ 0
@@ -65,43 +65,46 @@ last_in w h n =
 at-word : (p : Predicate) (q b : ℕ) → q * 64 ≤ b → b < q * 64 + 64 → bit_at p b ≡ test_bit (word p q) (b - q * 64)
 at-word p q b h l = ap (bit_at p) (omega arith) ∙ bit_in_word p q (b - q * 64) (omega arith)
 
-pub lowest_in : (p : Predicate) (q x : ℕ) → q < 4 → Below p q → (first_from (test_bit (word p q)) 0 64 < 64) ⊎ (q ≡ 3)
-    → x ≡ q * 64 + first_from (test_bit (word p q)) 0 64 → x ≡ first_from (bit_at p) 0 256
-lowest_in p q x h z side e =
+pub lowest_in : (p : Predicate) → Words p → (q x : ℕ) → q < 4 → Below p q → (word p q ≡ 0 → ⊥) → x ≡ q * 64 + first_from (test_bit (word p q)) 0 64 → x ≡ first_from (bit_at p) 0 256
+lowest_in p ok q x h z n e =
     let r = first_found (test_bit (word p q)) 0 64 (omega arith) in
+    let k : first_from (test_bit (word p q)) 0 64 < 64 = first_in (word p q) (ok.fit q) n in
     first_is (bit_at p) 0 256 x (record {
       from = omega arith;
-      upto = omega (arith, r.upto);
+      upto = omega arith;
       none = λ b l m. elim (dec_lt b (q * 64)) [
-        | yes k ↦ bit-of-none p b (z (b / 64) (omega arith))
-        | no k ↦ at-word p q b (omega arith) (omega (arith, r.upto)) ∙ r.none (b - q * 64) (omega arith) (omega arith)
+        | yes a ↦ bit-of-none p b (z (b / 64) (omega arith))
+        | no a ↦ at-word p q b (omega arith) (omega arith) ∙ r.none (b - q * 64) (omega arith) (omega arith)
       ];
-      hit = λ l. hit side r l;
+      hit = λ l. ap (bit_at p) e ∙ bit_in_word p q (first_from (test_bit (word p q)) 0 64) k ∙ r.hit k;
     })
-  where
-    hit : (first_from (test_bit (word p q)) 0 64 < 64) ⊎ (q ≡ 3) → First (test_bit (word p q)) 0 64 (first_from (test_bit (word p q)) 0 64) → x < 256 → bit_at p x ≡ true
-    hit (inl k) r l = ap (bit_at p) e ∙ bit_in_word p q (first_from (test_bit (word p q)) 0 64) k ∙ r.hit k
-    hit (inr k) r l = ap (bit_at p) e ∙ bit_in_word p q (first_from (test_bit (word p q)) 0 64) (omega arith) ∙ r.hit (omega arith)
 
-pub highest_in : (p : Predicate) (q x : ℕ) → q < 4 → Above p q → (0 < after_last (test_bit (word p q)) 64) ⊎ (q ≡ 0)
+pub lowest_none : (p : Predicate) → Below p 4 → 256 ≡ first_from (bit_at p) 0 256
+lowest_none p z =
+    first_is (bit_at p) 0 256 256 (record {
+      from = omega arith;
+      upto = omega arith;
+      none = λ b l h. bit-of-none p b (z (b / 64) (omega arith));
+      hit = λ h. absurd (omega arith);
+    })
+
+pub highest_in : (p : Predicate) (q x : ℕ) → q < 4 → From p (q + 1) → (0 < after_last (test_bit (word p q)) 64) ⊎ (q ≡ 0)
     → x ≡ q * 64 + after_last (test_bit (word p q)) 64 → x ≡ after_last (bit_at p) 256
 highest_in p q x h z side e =
     let r = last_found (test_bit (word p q)) 64 in
+    let some : (b : ℕ) → x ≡ suc b → q * 64 ≤ b = λ b s. at_least side b s in
     last_is (bit_at p) 256 x (record {
       upto = omega (arith, r.upto);
       none = λ b l m. elim (dec_lt b (q * 64 + 64)) [
-        | yes k ↦ at-word p q b (omega arith) k ∙ r.none (b - q * 64) (omega arith) (omega arith)
-        | no k ↦ bit-of-none p b (z (b / 64) (omega arith))
+        | yes a ↦ at-word p q b (omega arith) a ∙ r.none (b - q * 64) (omega arith) (omega arith)
+        | no a ↦ bit-of-none p b (z (b / 64) (omega arith))
       ];
-      hit = λ b s. hit side r b s;
+      hit = λ b s. at-word p q b (some b s) (omega (arith, r.upto)) ∙ r.hit (b - q * 64) (omega (arith, some b s));
     })
   where
-    top : Last (test_bit (word p q)) 64 (after_last (test_bit (word p q)) 64) → (b : ℕ) → x ≡ suc b → 0 < after_last (test_bit (word p q)) 64 → bit_at p b ≡ true
-    top r b s k = at-word p q b (omega arith) (omega (arith, r.upto)) ∙ r.hit (b - q * 64) (omega arith)
-
-    hit : (0 < after_last (test_bit (word p q)) 64) ⊎ (q ≡ 0) → Last (test_bit (word p q)) 64 (after_last (test_bit (word p q)) 64) → (b : ℕ) → x ≡ suc b → bit_at p b ≡ true
-    hit (inl k) r b s = top r b s k
-    hit (inr k) r b s = top r b s (omega arith)
+    at_least : (0 < after_last (test_bit (word p q)) 64) ⊎ (q ≡ 0) → (b : ℕ) → x ≡ suc b → q * 64 ≤ b
+    at_least (inl k) b s = omega arith
+    at_least (inr k) b s = omega arith
 
 -- ---- the lowest bit from a bit on, under a mask
 
@@ -161,16 +164,14 @@ passed {p} {mask} {from} {q} {w} r e b h l =
     ]
 
 -- and the next one, if nothing is left of that
-pub reached_next : {p : Predicate} {mask from q w : ℕ} → Reached p mask from q w → Words p → mask < 2 ^ 64 → w ≡ 0 → q + 1 < 4
-    → Reached p mask from (q + 1) (bit_and (word p (q + 1)) mask)
-reached_next {p} {mask} {from} {q} {w} r ok m e h =
+pub reached_next : {p : Predicate} {mask from : ℕ} → (i : ℕ) → Reached p mask from (i - 1) 0 → Words p → mask < 2 ^ 64 → 0 < i → i < 4 → Reached p mask from i (bit_and (word p i) mask)
+reached_next {p} {mask} {from} i r ok m s h =
     record {
       place = h;
       after = omega (arith, r.after);
-      none = λ b a l. passed r e b a (omega arith);
-      left = λ i l. masked-word p ok mask (q + 1) i m l
-          ∙ sym (ap (λ (t : Bool). t && under p mask ((q + 1) * 64 + i)) (le-leb from ((q + 1) * 64 + i) (omega (arith, r.after))));
-      fits = omega (arith, and_le_r (word p (q + 1)) mask);
+      none = λ b a l. passed r refl b a (omega arith);
+      left = λ k l. masked-word p ok mask i k m l ∙ sym (ap (λ (t : Bool). t && under p mask (i * 64 + k)) (le-leb from (i * 64 + k) (omega (arith, r.after))));
+      fits = omega (arith, and_le_r (word p i) mask);
     }
 
 -- where something is left, its lowest bit is the one
@@ -249,7 +250,7 @@ some-bit p ok q h n =
     (bit_in_word p q (first_from (test_bit (word p q)) 0 64) k ∙ (first_found (test_bit (word p q)) 0 64 (omega arith)).hit k))
 
 four_none : (p : Predicate) → word p 0 ≡ 0 → word p 1 ≡ 0 → word p 2 ≡ 0 → word p 3 ≡ 0 → Below p 4
-four_none p a b c d = below_suc p 3 (below_suc p 2 (below_suc p 1 (below_suc p 0 (below-zero p) a) b) c) d
+four_none p a b c d = below_next p 3 (below_next p 2 (below_next p 1 (below_next p 0 (below-zero p) a) b) c) d
 
 pub empty_words : (p : Predicate) → Words p → eqb (bit_or (bit_or (bit_or (word p 0) (word p 1)) (word p 2)) (word p 3)) 0 ≡ not (some (bit_at p) 256)
 empty_words p ok =
@@ -280,17 +281,7 @@ empty_words p ok =
 
 -- ---- PredTest's ends
 
-pub lowest_test : (m r : Predicate) → Words m → (q : ℕ) → q < 4 → Below m q → (word m q ≡ 0 → ⊥) → (x : Bool) (b : ℕ) → b ≡ first_from (test_bit (word m q)) 0 64
-    → x ≡ test_bit (word r q) (b % 64) → x ≡ at_lowest (bit_at m) (bit_at r) 256
-unfolding at_lowest
-lowest_test m r ok q h z n x b eb ex =
-    let k : b < 64 = rw (← eb) at (first_in (word m q) (ok.fit q) n) in
-    let low : q * 64 + b ≡ first_from (bit_at m) 0 256 = lowest_in m q (q * 64 + b) h z (inl (first_in (word m q) (ok.fit q) n)) (ap (λ (y : ℕ). q * 64 + y) eb) in
-    ex ∙ ap (test_bit (word r q)) (mod-eq_of_lt k) ∙ sym (bit_in_word r q b k)
-    ∙ sym (ap (λ (t : Bool). t && bit_at r (q * 64 + b)) (lt-ltb (q * 64 + b) 256 (omega arith)))
-    ∙ ap (λ (y : ℕ). ltb y 256 && bit_at r y) low
-
-pub highest_test : (m r : Predicate) → Words m → (q : ℕ) → q < 4 → Above m q → (word m q ≡ 0 → ⊥) → (x : Bool) (b : ℕ) → b ≡ after_last (test_bit (word m q)) 64
+pub highest_test : (m r : Predicate) → Words m → (q : ℕ) → q < 4 → From m (q + 1) → (word m q ≡ 0 → ⊥) → (x : Bool) (b : ℕ) → b ≡ after_last (test_bit (word m q)) 64
     → x ≡ test_bit (word r q) ((b + 63) % 64) → x ≡ at_highest (bit_at m) (bit_at r) 256
 unfolding at_highest
 highest_test m r ok q h z n x b eb ex =
@@ -302,21 +293,11 @@ highest_test m r ok q h z n x b eb ex =
     ∙ sym (ap (λ (t : Bool). t && bit_at r (q * 64 + b - 1)) (lt-ltb 0 (q * 64 + b) (omega arith)))
     ∙ ap (λ (y : ℕ). ltb 0 y && bit_at r (y - 1)) top
 
-pub lowest-none : (m r : Predicate) → Below m 4 → false ≡ at_lowest (bit_at m) (bit_at r) 256
-unfolding at_lowest
-lowest-none m r z =
-    ap (λ (y : ℕ). ltb y 256 && bit_at r y) (first_is (bit_at m) 0 256 256 (record {
-      from = omega arith;
-      upto = omega arith;
-      none = λ b l h. bit-of-none m b (z (b / 64) (omega arith));
-      hit = λ h. absurd (omega arith);
-    }))
-
-pub highest_none : (m r : Predicate) → Above m 0 → word m 0 ≡ 0 → false ≡ at_highest (bit_at m) (bit_at r) 256
+pub highest_none : (m r : Predicate) → From m 0 → false ≡ at_highest (bit_at m) (bit_at r) 256
 unfolding at_highest
-highest_none m r z e =
+highest_none m r z =
     ap (λ (y : ℕ). ltb 0 y && bit_at r (y - 1)) (last_is (bit_at m) 256 0 (record {
       upto = omega arith;
-      none = λ b l h. elim (dec_lt 0 (b / 64)) [ yes k ↦ bit-of-none m b (z (b / 64) k) | no k ↦ let s : b / 64 ≡ 0 = omega arith in bit-of-none m b (ap (word m) s ∙ e) ];
+      none = λ b l h. bit-of-none m b (z (b / 64) (omega arith));
       hit = λ b h. absurd (omega arith);
     }))

@@ -104,6 +104,12 @@ pack_bits p ok =
 pub same_bits : (p q : Predicate) → Words p → Words q → ((b : ℕ) → b < 256 → bit_at p b ≡ bit_at q b) → p ≡ q
 same_bits p q hp hq h = sym (pack_bits p hp) ∙ pack_cong (bit_at p) (bit_at q) h ∙ pack_bits q hq
 
+-- a predicate whose words are those of f
+pub from_words : (f : ℕ → Bool) (r : Predicate) → Words r → ((i : ℕ) → i < 4 → word r i ≡ number f (i * 64) 64) → r ≡ pack f
+from_words f r ok h =
+    sym (ap (λ (ws : List ℕ). record { words = ws }) (four_of r.words ok.four))
+    ∙ four_words f _ _ _ _ (h 0 (omega arith)) (h 1 (omega arith)) (h 2 (omega arith)) (h 3 (omega arith))
+
 -- ---- an operation on two predicates' words is the operation on their bits
 
 module _ (op : Bool → Bool → Bool) (on_words : ℕ → ℕ → ℕ)
@@ -112,6 +118,5 @@ module _ (op : Bool → Bool → Bool) (on_words : ℕ → ℕ → ℕ)
   op-word : (k : ℕ) → on_words (word p k) (word q k) ≡ number (λ b. op (bit_at p b) (bit_at q b)) (k * 64) 64
   op-word k = sym (law (bit_at p) (bit_at q) (k * 64) ∙ ap₂ on_words (word_bits p hp k) (word_bits q hq k))
 
-  pub pack-op : ◌≡◌ {A = Predicate} (record { words = on_words (word p 0) (word q 0) ∷ on_words (word p 1) (word q 1) ∷ on_words (word p 2) (word q 2) ∷ on_words (word p 3) (word q 3) ∷ [] })
-      (pack (λ b. op (bit_at p b) (bit_at q b)))
-  pack-op = four_words (λ b. op (bit_at p b) (bit_at q b)) _ _ _ _ (op-word 0) (op-word 1) (op-word 2) (op-word 3)
+  pub pack-op : (r : Predicate) → Words r → ((i : ℕ) → i < 4 → word r i ≡ on_words (word p i) (word q i)) → r ≡ pack (λ b. op (bit_at p b) (bit_at q b))
+  pack-op r hr h = from_words (λ b. op (bit_at p b) (bit_at q b)) r hr (λ i l. h i l ∙ op-word i)

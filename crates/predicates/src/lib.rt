@@ -3,7 +3,7 @@
 // What lies past a vector's elements is masked away, so no function asks for a legal predicate. Flags are answered as the number NZCV.
 #![tactic(auto)]
 
-ghost use Rattle.std.specs.Prelude.{◌≡◌, false, not, ◌&&◌, ◌||◌, ◌+◌, ◌-◌, ◌*◌, ◌/◌, ◌^◌, ◌%◌, ◌<◌, min, eqb, get_or};
+ghost use Rattle.std.specs.Prelude.{◌≡◌, ℕ, false, not, ◌&&◌, ◌||◌, ◌+◌, ◌-◌, ◌*◌, ◌/◌, ◌^◌, ◌%◌, ◌<◌, min, eqb, get_or};
 ghost use Rattle.std.specs.Bool.{xor as xor_bits};
 ghost use Rattle.bits.specs.Bits.{test_bit, number};
 ghost use Rattle.bits.specs.Choice.{digit};
@@ -31,14 +31,15 @@ pub struct Flags {
 }
 
 // The length of a predicate in bits.
+#[tactic(auto, unfolding(crate::specs::Predicate::predicate_length))]
 pub fn predicate_length(vl: u64) -> u64
     ensures { result ≡ predicate_length vl }
 {
-    let b = vl / 8;
-    if b < 256 { b } else { 256 }
+    (vl / 8).min(256)
 }
 
 // The number of elements in a vector.
+#[tactic(auto, unfolding(crate::specs::Predicate::elements))]
 pub fn elements(vl: u64, size: Size) -> u64
     ensures { result ≡ elements_of vl size }
 {
@@ -47,6 +48,7 @@ pub fn elements(vl: u64, size: Size) -> u64
 
 impl Predicate {
     // No bit set.
+    #[tactic(auto, unfolding(crate::specs::Predicate::pack, bits::specs::Bits::number))]
     pub fn none() -> Predicate
         ensures { result ≡ all_false }
     {
@@ -62,71 +64,59 @@ impl Predicate {
         }
     }
 
-    // Bit by bit.
-    pub fn and(self, other: Predicate) -> Predicate
-        ensures { result ≡ pack (λ b. bit_at self b && bit_at other b) }
+    // Word by word.
+    fn zip<F: Fn(u64, u64) -> u64>(self, other: Predicate, join: F) -> Predicate
+        requires { F.IsAlwaysCallable join }
+        ensures { (i : ℕ) → i < 4 → F.post join (get_or self.words i 0) (get_or other.words i 0) (get_or result.words i 0) }
     {
         let p = self.words;
         let q = other.words;
         Predicate {
-            words: [p[0] & q[0], p[1] & q[1], p[2] & q[2], p[3] & q[3]],
+            words: [
+                join(p[0], q[0]),
+                join(p[1], q[1]),
+                join(p[2], q[2]),
+                join(p[3], q[3]),
+            ],
         }
+    }
+
+    // Bit by bit.
+    pub fn and(self, other: Predicate) -> Predicate
+        ensures { result ≡ pack (λ b. bit_at self b && bit_at other b) }
+    {
+        self.zip(other, |p, q| p & q)
     }
 
     // Bit by bit.
     pub fn or(self, other: Predicate) -> Predicate
         ensures { result ≡ pack (λ b. bit_at self b || bit_at other b) }
     {
-        let p = self.words;
-        let q = other.words;
-        Predicate {
-            words: [p[0] | q[0], p[1] | q[1], p[2] | q[2], p[3] | q[3]],
-        }
+        self.zip(other, |p, q| p | q)
     }
 
     // The bits that the other does not have.
     pub fn and_not(self, other: Predicate) -> Predicate
         ensures { result ≡ pack (λ b. bit_at self b && not (bit_at other b)) }
     {
-        let p = self.words;
-        let q = other.words;
-        Predicate {
-            words: [
-                p[0] & (q[0] ^ 0xffff_ffff_ffff_ffff),
-                p[1] & (q[1] ^ 0xffff_ffff_ffff_ffff),
-                p[2] & (q[2] ^ 0xffff_ffff_ffff_ffff),
-                p[3] & (q[3] ^ 0xffff_ffff_ffff_ffff),
-            ],
-        }
+        self.zip(other, |p, q| p & !q)
     }
 
     // Bit by bit, exclusive.
     pub fn xor(self, other: Predicate) -> Predicate
         ensures { result ≡ pack (λ b. xor_bits (bit_at self b) (bit_at other b)) }
     {
-        let p = self.words;
-        let q = other.words;
-        Predicate {
-            words: [p[0] ^ q[0], p[1] ^ q[1], p[2] ^ q[2], p[3] ^ q[3]],
-        }
+        self.zip(other, |p, q| p ^ q)
     }
 
     // Each of the 256 bits inverted.
     pub fn complement(self) -> Predicate
         ensures { result ≡ pack (λ b. not (bit_at self b)) }
     {
-        let p = self.words;
-        Predicate {
-            words: [
-                p[0] ^ 0xffff_ffff_ffff_ffff,
-                p[1] ^ 0xffff_ffff_ffff_ffff,
-                p[2] ^ 0xffff_ffff_ffff_ffff,
-                p[3] ^ 0xffff_ffff_ffff_ffff,
-            ],
-        }
+        self.zip(self, |p, _| !p)
     }
 
-    // Whether no bit is set.
+    // Whether no bit is set. Without a branch for each word.
     pub fn is_empty(self) -> bool
         ensures { result ≡ not (some (bit_at self) 256) }
     {
@@ -150,34 +140,25 @@ impl Predicate {
     pub fn lowest(self) -> u64
         ensures { result ≡ first_from (bit_at self) 0 256 }
     {
-        let w = self.words;
-        if w[0] != 0 {
-            return bits::lowest_bit(w[0]);
+        for (i, word) in self.words.iter().enumerate() {
+            if *word != 0 {
+                return (i as u64) * 64 + bits::lowest_bit(*word);
+            }
         }
-        if w[1] != 0 {
-            return 64 + bits::lowest_bit(w[1]);
-        }
-        if w[2] != 0 {
-            return 128 + bits::lowest_bit(w[2]);
-        }
-        192 + bits::lowest_bit(w[3])
+        256
     }
 
-    // One more than the highest bit set, or 0.
+    // One more than the highest bit set, or 0. The lowest word is not tested: the highest bit of most predicates is in it.
     pub fn after_highest(self) -> u64
         ensures { result ≡ after_last (bit_at self) 256 }
     {
-        let w = self.words;
-        if w[3] != 0 {
-            return 192 + bits::bit_length(w[3]);
+        for i in (1..4).rev() {
+            let word = self.words[i];
+            if word != 0 {
+                return (i as u64) * 64 + bits::bit_length(word);
+            }
         }
-        if w[2] != 0 {
-            return 128 + bits::bit_length(w[2]);
-        }
-        if w[1] != 0 {
-            return 64 + bits::bit_length(w[1]);
-        }
-        bits::bit_length(w[0])
+        bits::bit_length(self.words[0])
     }
 
     // Word `i`, by comparisons: the words need not stand in memory to be chosen from.
@@ -197,20 +178,14 @@ impl Predicate {
     pub fn bit(self, b: u64) -> bool
         ensures { result ≡ bit_at self b }
     {
-        if 256 <= b {
-            return false;
-        }
-        (self.word(b / 64) >> (b % 64)) % 2 == 1
+        b < 256 && bit_of(self.word(b / 64), b)
     }
 
     // Whether an element's lowest bit is 1.
     pub fn is_active(self, size: Size, e: u64) -> bool
         ensures { result ≡ active (shift size) self e }
     {
-        if 256 <= e {
-            return false;
-        }
-        self.bit(e << size.shift())
+        e < 256 && self.bit(e << size.shift())
     }
 
     // The first active element from `start` on and below `elements`; `elements` if there is none, or `start` where that is past them.
@@ -240,8 +215,7 @@ impl Predicate {
         if 256 <= b {
             return elements;
         }
-        let e = b >> k;
-        if e < elements { e } else { elements }
+        (b >> k).min(elements)
     }
 
     // The first bit from `from` on that is the lowest of an active element; 256 or more if there is none. Words without one are skipped.
@@ -252,48 +226,28 @@ impl Predicate {
             return from;
         }
         let mask = bits::element_mask(size);
-        let mut i = (from / 64) as usize;
+        let start = (from / 64) as usize;
         // Of the first word, the bits from `from` on.
-        let mut word = ((self.words[i] & mask) >> (from % 64)) << (from % 64);
-        let found = loop {
+        let first = ((self.words[start] & mask) >> (from % 64)) << (from % 64);
+        if first != 0 {
+            return (start as u64) * 64 + bits::lowest_bit(first);
+        }
+        for i in start + 1..4 {
+            let word = self.words[i] & mask;
             if word != 0 {
-                break (i as u64) * 64 + bits::lowest_bit(word);
+                return (i as u64) * 64 + bits::lowest_bit(word);
             }
-            i += 1;
-            if 4 <= i {
-                break 256;
-            }
-            word = self.words[i] & mask;
-        };
-        found
+        }
+        256
     }
 
     // Only bit `b` set.
     pub fn only(b: u64) -> Predicate
         ensures { result ≡ pack (λ i. eqb i b) }
     {
-        let bit: u64 = 1 << (b % 64);
-        if b < 64 {
-            return Predicate {
-                words: [bit, 0, 0, 0],
-            };
+        Predicate {
+            words: [word_of(b, 0), word_of(b, 1), word_of(b, 2), word_of(b, 3)],
         }
-        if b < 128 {
-            return Predicate {
-                words: [0, bit, 0, 0],
-            };
-        }
-        if b < 192 {
-            return Predicate {
-                words: [0, 0, bit, 0],
-            };
-        }
-        if b < 256 {
-            return Predicate {
-                words: [0, 0, 0, bit],
-            };
-        }
-        Predicate::none()
     }
 
     // The first `n` elements active.
@@ -302,18 +256,14 @@ impl Predicate {
     {
         let end = end_of(size, n);
         let e = bits::element_mask(size);
+        let word = |at| e & bits::low_mask(end, at);
         if end <= 64 {
             return Predicate {
-                words: [e & bits::low_mask(end, 0), 0, 0, 0],
+                words: [word(0), 0, 0, 0],
             };
         }
         Predicate {
-            words: [
-                e & bits::low_mask(end, 0),
-                e & bits::low_mask(end, 64),
-                e & bits::low_mask(end, 128),
-                e & bits::low_mask(end, 192),
-            ],
+            words: [word(0), word(64), word(128), word(192)],
         }
     }
 
@@ -380,13 +330,18 @@ impl Predicate {
 fn end_of(size: Size, n: u64) -> u64
     ensures { result ≡ min n 256 * 2 ^ shift size }
 {
-    if 256 <= n {
-        return 256 << size.shift();
-    }
-    n << size.shift()
+    n.min(256) << size.shift()
+}
+
+// Word `q` of the predicate that has only bit `b`. By a choice: a store at b / 64 makes the next read of the words wait.
+fn word_of(b: u64, q: u64) -> u64
+    ensures { result ≡ number (λ i. eqb i b) (q * 64) 64 }
+{
+    if b / 64 == q { 1 << (b % 64) } else { 0 }
 }
 
 // Whether bit `b` of a word is set, for a bit of the word.
+#[tactic(auto, unfolding(bits::specs::Bits::test_bit))]
 fn bit_of(word: u64, b: u64) -> bool
     ensures { result ≡ test_bit word (b % 64) }
 {
@@ -397,59 +352,33 @@ fn bit_of(word: u64, b: u64) -> bool
 fn at_lowest(mask: Predicate, res: Predicate) -> bool
     ensures { result ≡ at_lowest (bit_at mask) (bit_at res) 256 }
 {
-    let m = mask.words;
-    let w = res.words;
-    if m[0] != 0 {
-        return bit_of(w[0], bits::lowest_bit(m[0]));
-    }
-    if m[1] != 0 {
-        return bit_of(w[1], bits::lowest_bit(m[1]));
-    }
-    if m[2] != 0 {
-        return bit_of(w[2], bits::lowest_bit(m[2]));
-    }
-    if m[3] != 0 {
-        return bit_of(w[3], bits::lowest_bit(m[3]));
-    }
-    false
+    res.bit(mask.lowest())
 }
 
 // The result at the highest bit of the mask.
 fn at_highest(mask: Predicate, res: Predicate) -> bool
     ensures { result ≡ at_highest (bit_at mask) (bit_at res) 256 }
 {
-    let m = mask.words;
-    let w = res.words;
-    if m[3] != 0 {
-        return bit_of(w[3], bits::bit_length(m[3]) + 63);
-    }
-    if m[2] != 0 {
-        return bit_of(w[2], bits::bit_length(m[2]) + 63);
-    }
-    if m[1] != 0 {
-        return bit_of(w[1], bits::bit_length(m[1]) + 63);
-    }
-    if m[0] != 0 {
-        return bit_of(w[0], bits::bit_length(m[0]) + 63);
+    for i in (0..4).rev() {
+        let word = mask.words[i];
+        if word != 0 {
+            return bit_of(res.words[i], bits::bit_length(word) + 63);
+        }
     }
     false
 }
 
-fn digit_of(b: bool) -> u64
-    ensures { result ≡ digit b }
-{
-    if b { 1 } else { 0 }
-}
-
 // N, Z and C, with V clear, as the number NZCV.
+#[tactic(auto, unfolding(crate::specs::PredTest::nzcv))]
 pub fn nzcv(n: bool, z: bool, c: bool) -> u64
     ensures { result ≡ nzcv_of (record { n = n; z = z; c = c; v = false }) }
 {
-    digit_of(n) * 8 + digit_of(z) * 4 + digit_of(c) * 2
+    u64::from(n) * 8 + u64::from(z) * 4 + u64::from(c) * 2
 }
 
 impl Flags {
     // The flags of a number NZCV.
+    #[tactic(auto, unfolding(crate::specs::PredTest::flags_of))]
     pub fn of(nzcv: u64) -> Flags
         ensures { result ≡ flags_of nzcv }
     {

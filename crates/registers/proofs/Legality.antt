@@ -84,15 +84,6 @@ strays s t false z h n e m = ap (λ (b : Bool). not (b || has_wrong_count s)) (f
 pub by_counts : (s : State) (t : Bool) → Sized s → t ≡ settings_allowed s.vl s.level → not t ≡ false → has_stray_bit s ≡ false → not (has_wrong_count s) ≡ legal s
 by_counts s t z h n e = sym (ap (λ (b : Bool). not (b || has_wrong_count s)) e) ∙ allowed s t z h n
 
--- the settings, as the code tests them
-pub not-length : (vl level : ℕ) (t : Bool) → t ≡ is_length vl → not t ≡ true → false ≡ settings_allowed vl level
-not-length vl level true h n = never n refl
-not-length vl level false h n = ap (λ (b : Bool). b && leb level 3) h
-
-pub by_level : (vl level : ℕ) (t : Bool) → t ≡ is_length vl → not t ≡ false → leb level 3 ≡ settings_allowed vl level
-by_level vl level false h n = never refl n
-by_level vl level true h n = ap (λ (b : Bool). b && leb level 3) h
-
 -- what allowed settings are
 pub settings_has : (vl level : ℕ) → settings_allowed vl level ≡ true → (is_length vl ≡ true) × (level ≤ 3)
 settings_has vl level e = let (a, b) = both (is_length vl) (leb level 3) e in (a, leb-true level 3 b)

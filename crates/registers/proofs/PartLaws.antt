@@ -1,23 +1,21 @@
 -- The parts of a state: reads and writes of lists of words are reads and writes of predicates. Assumes nothing.
 use mathlib.Core.Bool.{Bool, true, false, not, ◌&&◌}
-use mathlib.Core.List.{List, [], ◌∷◌, ◌++◌}
-use mathlib.Core.Path.{◌≡◌, refl, sym, ap, ap₂, ◌∙◌}
+use mathlib.Core.List.{List, [], ◌∷◌, ◌++◌, map}
+use mathlib.Core.Path.{◌≡◌, refl, sym, ap, ap₂, subst, ◌∙◌}
 use Prim.Native.Nat.{ℕ, zero, suc, ◌+◌, ◌*◌, ◌%◌, ◌^◌, ◌≤◌, ◌<◌, min}
 use native.Mathlib.Numerals.{add-one}
-use native.Mathlib.Nat.{not-suc-le-zero, le_of_suc-le-suc}
+use native.Mathlib.Nat.{add-zero, zero-add, not-suc-le-zero, le_of_suc-le-suc}
 use native.Mathlib.Omega.{arith}
 use lib.Bits.{bit_or, bit_xor}
 use lib.Dec.{leb, eqb}
-use lib.ListN.{get_or, set, length, take, get_or-eq_default}
-use lib.Seq.{set_out, take-suc, take-suc-set, take-length}
-use Rattle.bits.specs.Bits.{test_bit}
-use Rattle.bits.specs.Choice.{pick}
+use lib.ListN.{get_or, set, take, length, length-map, get_or-map}
+use lib.Seq.{set_out, ext_get_or, take-suc, take-suc-set, take-length, get_or-take, length-take-le}
+use denote.Param.Members.{Mut, Called}
+use Rattle.std.specs.Array.{IsFromFnResult, IsFromFnResultFrom}
 use Rattle.bits.specs.Search.{some}
 use Rattle.bits.proofs.Searches.{never, some_cong, some-none}
-use Rattle.predicates.specs.declared.Flags.{Flags}
 use Rattle.predicates.specs.declared.Predicate.{Predicate}
 use Rattle.predicates.specs.Predicate.{all_false, pack, bit_at, predicate_length, has_bit_from}
-use Rattle.predicates.specs.PredTest.{flags_of}
 use Rattle.predicates.proofs.Lengths.{length_quads}
 use Rattle.tally.specs.declared.Counts.{Counts}
 use Rattle.tally.specs.Counts.{counts_of, no_counts, same_counts}
@@ -31,7 +29,7 @@ use Rattle.registers.specs.declared.State.{State}
 use Rattle.registers.specs.declared.parts.Settings.{Settings}
 use Rattle.registers.specs.State.{assembled, read_p, read_counts}
 use Rattle.registers.specs.Legal.{has_all_registers, settings_allowed, has_stray_bit, has_wrong_count, legal}
-use Rattle.registers.specs.Parts.{predicates_of, counts_from, flags_from, state_at, settings_of}
+use Rattle.registers.specs.Parts.{predicates_of, counts_as, counts_from, state_at, settings_of}
 use Rattle.registers.proofs.Registers.{Sized}
 use Rattle.registers.proofs.Legality.{strays, by_counts, settings_has, quads, stray_union}
 
@@ -46,8 +44,11 @@ read_in [] i h = absurd (not-suc-le-zero h)
 read_in (w ∷ ws) zero h = refl
 read_in (w ∷ ws) (suc i) h = read_in ws i (le_of_suc-le-suc h)
 
-pub read_out : (l : List (List ℕ)) (i : ℕ) → length l ≤ i → all_false ≡ get_or (predicates_of l) i all_false
-read_out l i h = sym (get_or-eq_default (predicates_of l) all_false {n = i} (rw (predicates_length l) h))
+pub read_at : (l : List (List ℕ)) (i : ℕ) → record { words = get_or l i all_false.words } ≡ get_or (predicates_of l) i all_false
+unfolding predicates_of
+read_at [] i = refl
+read_at (w ∷ ws) zero = refl
+read_at (w ∷ ws) (suc i) = read_at ws i
 
 pub write_in : (l : List (List ℕ)) (i : ℕ) (q : Predicate) → predicates_of (set l i q.words) ≡ set (predicates_of l) i q
 unfolding predicates_of
@@ -55,13 +56,7 @@ write_in [] i q = refl
 write_in (w ∷ ws) zero q = refl
 write_in (w ∷ ws) (suc i) q = ap (λ (r : List Predicate). record { words = w } ∷ r) (write_in ws i q)
 
-pub write_out : (l : List (List ℕ)) (i : ℕ) (q : Predicate) → length l ≤ i → predicates_of l ≡ set (predicates_of l) i q
-write_out l i q h = sym (set_out (predicates_of l) i q (rw (predicates_length l) h))
-
 -- ---- counts
-
-abbrev pub counts_as : List ℕ → Counts
-counts_as c = record { b = get_or c 0 0; h = get_or c 1 0; s = get_or c 2 0; d = get_or c 3 0 }
 
 pub counts_length : (l : List (List ℕ)) → length (counts_from l) ≡ length l
 unfolding counts_from
@@ -74,8 +69,11 @@ counts_in_lem [] i h = absurd (not-suc-le-zero h)
 counts_in_lem (c ∷ cs) zero h = refl
 counts_in_lem (c ∷ cs) (suc i) h = counts_in_lem cs i (le_of_suc-le-suc h)
 
-pub counts_out : (l : List (List ℕ)) (i : ℕ) → length l ≤ i → no_counts ≡ get_or (counts_from l) i no_counts
-counts_out l i h = sym (get_or-eq_default (counts_from l) no_counts {n = i} (rw (counts_length l) h))
+pub counts_read : (l : List (List ℕ)) (i : ℕ) → counts_as (get_or l i (0 ∷ 0 ∷ 0 ∷ 0 ∷ [])) ≡ get_or (counts_from l) i no_counts
+unfolding counts_from
+counts_read [] i = refl
+counts_read (c ∷ cs) zero = refl
+counts_read (c ∷ cs) (suc i) = counts_read cs i
 
 pub counts_write : (l : List (List ℕ)) (i : ℕ) (k : Counts) → counts_from (set l i (k.b ∷ k.h ∷ k.s ∷ k.d ∷ [])) ≡ set (counts_from l) i k
 unfolding counts_from
@@ -88,15 +86,6 @@ counts_written l i k e h = counts_write l i k ∙ ap (set (counts_from l) i) h
 
 pub counts_write_out : (l : List (List ℕ)) (i : ℕ) (k : Counts) → length l ≤ i → counts_from l ≡ set (counts_from l) i k
 counts_write_out l i k h = sym (set_out (counts_from l) i k (rw (counts_length l) h))
-
--- ---- flags, set or kept
-
-pub flags_kept : (l : List Bool) (sets : Bool) (f : ℕ) → sets ≡ false → flags_from l ≡ pick sets (flags_of f) (flags_from l)
-flags_kept l sets f h = sym (ap (λ (b : Bool). pick b (flags_of f) (flags_from l)) h)
-
-pub flags_written : (l : List Bool) (sets : Bool) (f : ℕ) → sets ≡ true → flags_from (test_bit f 3 ∷ test_bit f 2 ∷ test_bit f 1 ∷ test_bit f 0 ∷ []) ≡ pick sets (flags_of f) (flags_from l)
-unfolding flags_of
-flags_written l sets f h = sym (ap (λ (b : Bool). pick b (flags_of f) (flags_from l)) h)
 
 -- ---- legality, from the lengths, from the union of the predicates and from the counts
 
@@ -163,7 +152,44 @@ pub by_numbers : (s : State) (b w r : Bool) (u : Predicate) (pl : ℕ) (p c : Li
 by_numbers s b w r u pl p c z hb n hu hp hw m ep ec hr =
     by_tallies s b w r u pl z hb n hu hp hw m (hr ∙ ap₂ (λ (ps : List Predicate) (cs : List Counts). not (some (unlike (leb pl 64) ps cs) (min (length ps) (length cs)))) ep ec)
 
--- ---- predicates copied one by one
+-- ---- arrays made element by element
+
+module _ {F B : Type 0} (g : Mut F (ℕ × Unit {0}) B) (f : F) (h : ℕ → B) (most : ℕ) (step : (i : ℕ) (y : B) (q : F) → i < most → Called g f (i, tt) y q → (y ≡ h i) × (q ≡ f)) where
+  made_from : (ys : List B) (i n j : ℕ) (d : B) → i + n ≤ most → IsFromFnResultFrom g f ys i n → j < n → get_or ys (i + j) d ≡ h (i + j)
+  made_from ys i zero j d a m l = absurd (omega arith)
+  made_from ys i (suc n) zero d a (q, y, at, call, rest) l = rw add-zero (at.1 d ∙ (step i y q (omega arith) call).0)
+  made_from ys i (suc n) (suc j) d a (q, y, at, call, rest) l =
+      let m : IsFromFnResultFrom g f ys (i + 1) n = subst (λ (p : F). IsFromFnResultFrom g p ys (i + 1) n) (step i y q (omega arith) call).1 rest in
+      let e : i + 1 + j ≡ i + suc j = omega arith in
+      ap (λ (k : ℕ). get_or ys k d) (sym e) ∙ made_from ys (i + 1) n j d (omega arith) m (omega arith) ∙ ap h e
+
+  -- where each call gives `h` of the index and leaves the function as it is, so has the array that it fills
+  pub made_of : (ys : List B) (i : ℕ) (d : B) → IsFromFnResult g f ys most → i < most → get_or ys i d ≡ h i
+  made_of ys i d m l = ap (λ (k : ℕ). get_or ys k d) (sym (zero-add i)) ∙ made_from ys 0 most i d (omega arith) m.each l ∙ ap h (zero-add i)
+
+-- where each call gives `h` of the element at the index, it is `h` of the first elements
+module _ {F A B : Type 0} (g : Mut F (ℕ × Unit {0}) B) (h : A → B) (f : F) (xs : List A) (ys : List B) (n : ℕ) (d : A) (m : IsFromFnResult g f ys n) where
+  pub filled_front : n ≤ length xs → ((i : ℕ) (y : B) (q : F) → i < n → Called g f (i, tt) y q → (y ≡ h (get_or xs i d)) × (q ≡ f)) → ys ≡ map h (take n xs)
+  filled_front e step =
+      ext_get_or (h d) ys (map h (take n xs)) (m.long ∙ sym (length-map (take n xs) h ∙ length-take-le n xs e))
+      (λ i k.
+      let b : i < n = omega (arith, m.long) in
+      made_of g f (λ j. h (get_or xs j d)) n step ys i (h d) m b ∙ sym (get_or-map h (take n xs) i d ∙ ap h (get_or-take n xs i d b)))
+
+  pub filled : length xs ≡ n → ((i : ℕ) (y : B) (q : F) → i < n → Called g f (i, tt) y q → (y ≡ h (get_or xs i d)) × (q ≡ f)) → ys ≡ map h xs
+  filled e step = filled_front (omega arith) step ∙ ap (λ (k : ℕ). map h (take k xs)) (sym e) ∙ ap (map h) (take-length xs)
+
+pub by_words : (l : List (List ℕ)) → map (λ w. record { words = w }) l ≡ predicates_of l
+unfolding predicates_of
+by_words [] = refl
+by_words (w ∷ l) = ap (λ (r : List Predicate). record { words = w } ∷ r) (by_words l)
+
+pub by_numbers_as : (l : List (List ℕ)) → map counts_as l ≡ counts_from l
+unfolding counts_from
+by_numbers_as [] = refl
+by_numbers_as (c ∷ l) = ap (λ (r : List Counts). counts_as c ∷ r) (by_numbers_as l)
+
+-- ---- arrays written element by element
 
 module _ {A : Type 0} where
   pub copied_more : (l m : List A) (i : ℕ) (d v : A) → i < length l → i < length m → v ≡ get_or m i d → take i l ≡ take i m → take (i + 1) (set l i v) ≡ take (i + 1) m
@@ -188,7 +214,3 @@ pub parts_are : (s : State) (u : Settings) (f : List Bool) (p c : List (List ℕ
 parts_are s u f p c hu hf hp hc =
     ap (λ (v : Settings). state_at v f s.x p c) hu ∙ ap (λ (b : List Bool). state_at (settings_of s) b s.x p c) hf
     ∙ ap₂ (assembled s.vl s.level s.access s.flags s.x) hp hc
-
-pub state_made : (u : Settings) (f : List Bool) (g : Flags) (x : List ℕ) (p c : List (List ℕ)) (q : List Predicate) (k : List Counts) → g ≡ flags_from f → q ≡ predicates_of p
-    → k ≡ counts_from c → assembled u.vl u.level u.access g x q k ≡ state_at u f x p c
-state_made u f g x p c q k hg hq hk = λ i. assembled u.vl u.level u.access (hg i) x (hq i) (hk i)

@@ -12,10 +12,14 @@ unfoldable pub predicates_of : List (List ℕ) → List Predicate
 predicates_of [] = []
 predicates_of (w ∷ ws) = record { words = w } ∷ predicates_of ws
 
+-- the counts of B, H, S and D in this order
+abbrev pub counts_as : List ℕ → Counts
+counts_as c = record { b = get_or c 0 0; h = get_or c 1 0; s = get_or c 2 0; d = get_or c 3 0 }
+
 -- counts, each as those of B, H, S and D
 unfoldable pub counts_from : List (List ℕ) → List Counts
 counts_from [] = []
-counts_from (c ∷ cs) = record { b = get_or c 0 0; h = get_or c 1 0; s = get_or c 2 0; d = get_or c 3 0 } ∷ counts_from cs
+counts_from (c ∷ cs) = counts_as c ∷ counts_from cs
 
 -- N, Z, C and V in this order
 abbrev pub flags_from : List Bool → Flags

@@ -5,7 +5,7 @@
 // a predicate has a bit at or above VL/8, or a count is wrong: reply 4 refuses it. State's methods take the state by value and return it; `parts` has the same over registers lent one by one.
 #![tactic(auto)]
 
-ghost use Rattle.std.specs.Prelude.{◌≡◌, get_or, length};
+ghost use Rattle.std.specs.Prelude.{◌≡◌, get_or, set};
 ghost use Rattle.bits.specs.Search.{some};
 ghost use Rattle.predicates.specs.Predicate.{bit_at, pack, all_false};
 ghost use Rattle.registers.specs.State.{all_counts, made, counted, read_x, read_p, read_counts, with_x, with_p, with_flags};
@@ -28,7 +28,7 @@ pub const PREDICATES: usize = 17;
 pub const COUNTED: usize = 16;
 
 #[repr(C)]
-#[derive(Clone, Copy)]
+#[derive(Clone, Copy, PartialEq, Eq, Debug)]
 pub struct State {
     // The vector length in bits.
     pub vl: u64,
@@ -70,10 +70,7 @@ impl State {
     pub fn counted(self) -> State
         ensures { result ≡ counted self }
     {
-        let flags = self.flags;
-        let x = self.x;
-        let p = self.p;
-        State::new(self.vl, self.level, self.access, flags, x, p)
+        State::new(self.vl, self.level, self.access, self.flags, self.x, self.p)
     }
 
     // VL, level and access.
@@ -91,40 +88,28 @@ impl State {
     pub fn read_x(self, r: u64) -> u64
         ensures { result ≡ read_x self r }
     {
-        let i = r as usize;
-        if i < X_REGISTERS { self.x[i] } else { 0 }
+        item(&self.x, r, 0)
     }
 
     // P0 to P15, and FFR by number 16; number 17 and above read as all false.
     pub fn read_p(self, r: u64) -> Predicate
         ensures { result ≡ read_p self r }
     {
-        let i = r as usize;
-        if i < PREDICATES {
-            return self.p[i];
-        }
-        Predicate::none()
+        item(&self.p, r, Predicate::none())
     }
 
     // The counts beside P0 to P15; number 16 and above read as zeros.
     pub fn read_counts(self, r: u64) -> Counts
         ensures { result ≡ read_counts self r }
     {
-        let i = r as usize;
-        if i < COUNTED {
-            return self.counts[i];
-        }
-        Counts::none()
+        item(&self.counts, r, Counts::none())
     }
 
     // The state with Xr anew; a write past X30 vanishes.
     pub fn with_x(mut self, r: u64, v: u64) -> State
         ensures { result ≡ with_x self r v }
     {
-        let i = r as usize;
-        if i < X_REGISTERS {
-            self.x[i] = v;
-        }
+        put(&mut self.x, r, v);
         self
     }
 
@@ -132,10 +117,9 @@ impl State {
     pub fn with_p(mut self, r: u64, q: Predicate) -> State
         ensures { result ≡ with_p self r q }
     {
+        put(&mut self.p, r, q);
         let i = r as usize;
-        if i < PREDICATES {
-            self.p[i] = q;
-        }
+        // FFR has no counts, and none are worked out for it.
         if i < COUNTED {
             self.counts[i] = Counts::of(q, self.vl);
         }
@@ -150,83 +134,52 @@ impl State {
         self
     }
 
-    // Whether reply 4 does not refuse the state. The predicates are joined first, so that one test of stray bits serves all; the counts are compared as those of lent registers are.
+    // Whether reply 4 does not refuse the state. Compiled into a walk, it would have the state copied there for each register that is read.
+    #[inline(never)]
     pub fn is_legal(self) -> bool
         ensures { result ≡ legal self }
     {
-        if !settings_allowed(self.vl, self.level) {
-            return false;
-        }
-        let pl = predicates::predicate_length(self.vl);
-        let held = self.p;
-        if !union(held).is_within(pl) {
-            return false;
-        }
-        let p = parts::words_of(held);
-        let kept = self.counts;
-        let counts = parts::numbers_of(kept);
-        parts::counts_agree(&p, &counts, pl <= 64)
+        let p = parts::words_of(self.p);
+        let counts = parts::numbers_of(self.counts);
+        parts::is_legal(self.settings(), &self.x, &p, &counts)
     }
 }
 
 // The five vector lengths.
+#[tactic(auto, unfolding(crate::specs::Legal::is_length))]
 pub fn is_length(vl: u64) -> bool
     ensures { result ≡ is_length vl }
 {
-    if vl == 128 {
-        return true;
-    }
-    if vl == 256 {
-        return true;
-    }
-    if vl == 512 {
-        return true;
-    }
-    if vl == 1024 {
-        return true;
-    }
-    vl == 2048
+    matches!(vl, 128 | 256 | 512 | 1024 | 2048)
 }
 
 // The five vector lengths, and level at most 3: for a state, and for an image's settings.
 pub fn settings_allowed(vl: u64, level: u8) -> bool
     ensures { result ≡ settings_allowed vl level }
 {
-    if !is_length(vl) {
-        return false;
-    }
-    level <= 3
-}
-
-// The bits that any of the predicates has.
-fn union(p: [Predicate; PREDICATES]) -> Predicate
-    ensures { result ≡ pack (λ b. some (λ r. bit_at (get_or p r all_false) b) (length p)) }
-{
-    let mut q = Predicate::none();
-    let mut i = 0;
-    while i < PREDICATES {
-        let next = p[i];
-        q = next.or(q);
-        i += 1;
-    }
-    q
+    is_length(vl) && level <= 3
 }
 
 // The counts of P0 to P15.
 fn all_counts(p: [Predicate; PREDICATES], vl: u64) -> [Counts; COUNTED]
     ensures { result ≡ all_counts vl p }
 {
-    let mut r = [Counts {
-        b: 0,
-        h: 0,
-        s: 0,
-        d: 0,
-    }; COUNTED];
-    let mut i = 0;
-    while i < COUNTED {
-        let q = p[i];
-        r[i] = Counts::of(q, vl);
-        i += 1;
+    std::array::from_fn(|i| Counts::of(p[i], vl))
+}
+
+// Item r, or `none` past the last.
+fn item<T: Copy + Drop>(items: &[T], r: u64, none: T) -> T
+    ensures { result ≡ get_or items.now r none }
+{
+    items.get(r as usize).copied().unwrap_or(none)
+}
+
+// A write past the last item vanishes.
+fn put<T: Copy + Drop>(items: &mut [T], r: u64, v: T)
+    ensures { items.new ≡ set items.old r v }
+{
+    let i = r as usize;
+    if i < items.len() {
+        items[i] = v;
     }
-    r
 }

@@ -8,15 +8,15 @@ ghost use Rattle.tally.specs.Counts.{no_counts, counts_of, same_counts};
 ghost use Rattle.tally.specs.Tally.{counts_in, tally_in};
 ghost use Rattle.registers.specs.State.{x_registers, register_count, counted_registers};
 ghost use Rattle.registers.specs.Legal.{legal};
-ghost use Rattle.registers.specs.Parts.{predicates_of, counts_from, flags_from, state_at};
+ghost use Rattle.registers.specs.Parts.{predicates_of, counts_as, counts_from, flags_from, state_at};
 
-use super::{COUNTED, PREDICATES, State, X_REGISTERS};
+use super::{COUNTED, PREDICATES, State, X_REGISTERS, item, put};
 use predicates::{Flags, Predicate};
 use tally::Counts;
 
 // What no instruction changes.
 #[repr(C)]
-#[derive(Clone, Copy)]
+#[derive(Clone, Copy, PartialEq, Eq, Debug)]
 pub struct Settings {
     // The vector length in bits.
     pub vl: u64,
@@ -25,51 +25,53 @@ pub struct Settings {
     pub access: bool,
 }
 
+// The counts of a register's numbers: those of B, H, S and D.
+fn counts_in(c: [u16; 4]) -> Counts
+    ensures { result ≡ counts_as c }
+{
+    Counts {
+        b: c[0],
+        h: c[1],
+        s: c[2],
+        d: c[3],
+    }
+}
+
+// A register's counts, as those of B, H, S and D.
+fn numbers_in(c: Counts) -> [u16; 4]
+    ensures { result ≡ c.b ∷ c.h ∷ c.s ∷ c.d ∷ [] }
+{
+    [c.b, c.h, c.s, c.d]
+}
+
 // A number past the last register reads as zero.
 pub fn x_at(x: &[u64], r: u64) -> u64
     ensures { result ≡ get_or x.now r 0 }
 {
-    let i = r as usize;
-    if i < x.len() { x[i] } else { 0 }
+    item(x, r, 0)
 }
 
 // A write past the last register vanishes.
 pub fn put_x(x: &mut [u64], r: u64, v: u64)
     ensures { x.new ≡ set x.old r v }
 {
-    let i = r as usize;
-    if i < x.len() {
-        x[i] = v;
-    }
+    put(x, r, v);
 }
 
 // A number past the last register reads as all false.
 pub fn p_at(p: &[[u64; 4]], r: u64) -> Predicate
     ensures { result ≡ get_or (predicates_of p.now) r all_false }
 {
-    let i = r as usize;
-    if i < p.len() {
-        let words = p[i];
-        return Predicate { words };
+    Predicate {
+        words: item(p, r, Predicate::none().words),
     }
-    Predicate::none()
 }
 
 // A number past the last register reads as zeros.
 pub fn counts_at(counts: &[[u16; 4]], r: u64) -> Counts
     ensures { result ≡ get_or (counts_from counts.now) r no_counts }
 {
-    let i = r as usize;
-    if i < counts.len() {
-        let c = counts[i];
-        return Counts {
-            b: c[0],
-            h: c[1],
-            s: c[2],
-            d: c[3],
-        };
-    }
-    Counts::none()
+    counts_in(item(counts, r, [0; 4]))
 }
 
 // A predicate, with its counts beside it; a write past the last register vanishes, and so do the counts of FFR.
@@ -77,22 +79,11 @@ pub fn put_p(p: &mut [[u64; 4]], counts: &mut [[u16; 4]], vl: u64, r: u64, q: Pr
     ensures p_after { predicates_of p.new ≡ set (predicates_of p.old) r q }
     ensures counts_after { counts_from counts.new ≡ set (counts_from counts.old) r (counts_of vl q) }
 {
-    put_words(p, r, q);
+    put(p, r, q.words);
     let i = r as usize;
+    // FFR has no counts, and none are worked out for it.
     if i < counts.len() {
-        let c = Counts::of(q, vl);
-        let written = [c.b, c.h, c.s, c.d];
-        counts[i] = written;
-    }
-}
-
-fn put_words(p: &mut [[u64; 4]], r: u64, q: Predicate)
-    ensures { predicates_of p.new ≡ set (predicates_of p.old) r q }
-{
-    let i = r as usize;
-    if i < p.len() {
-        let words = q.words;
-        p[i] = words;
+        counts[i] = numbers_in(Counts::of(q, vl));
     }
 }
 
@@ -101,13 +92,7 @@ pub fn put_flags(flags: &mut [bool; 4], sets: bool, nzcv: u64)
     ensures { flags_from flags.new ≡ pick sets (flags_of nzcv) (flags_from flags.old) }
 {
     if sets {
-        let written = [
-            (nzcv >> 3) % 2 == 1,
-            (nzcv >> 2) % 2 == 1,
-            (nzcv >> 1) % 2 == 1,
-            (nzcv >> 0) % 2 == 1,
-        ];
-        *flags = written;
+        *flags = bits_of_flags(Flags::of(nzcv));
     }
 }
 
@@ -116,21 +101,10 @@ fn union(p: &[[u64; 4]]) -> Predicate
     ensures { result ≡ pack (λ b. some (λ r. bit_at (get_or (predicates_of p.now) r all_false) b) (length (predicates_of p.now))) }
 {
     let mut q = Predicate::none();
-    let mut i = 0;
-    while i < p.len() {
-        let words = p[i];
-        let one = Predicate { words };
-        q = one.or(q);
-        i += 1;
+    for &words in p {
+        q = Predicate { words }.or(q);
     }
     q
-}
-
-// The smaller of two.
-fn least(m: usize, n: usize) -> usize
-    ensures { result ≡ min m n }
-{
-    if m < n { m } else { n }
 }
 
 // 0 exactly if the counts are those of a predicate; `low` counts its first word alone.
@@ -145,25 +119,15 @@ fn difference(q: Predicate, c: Counts, low: bool) -> u64
 
 // Whether the counts are those of the predicates that they stand beside; `low` goes by the first word of each alone. No test in the loop depends on a register, so that it is compiled to two registers
 // at a time.
+#[inline(never)]
 pub fn counts_agree(p: &[[u64; 4]], counts: &[[u16; 4]], low: bool) -> bool
     ensures { result ≡ not (some (λ i. not (same_counts (counts_in (tally_in low (get_or (predicates_of p.now) i all_false))) (get_or (counts_from counts.now) i no_counts)))
         (min (length (predicates_of p.now)) (length (counts_from counts.now)))) }
 {
-    let n = least(p.len(), counts.len());
     let mut bad = 0;
-    let mut i = 0;
-    while i < n {
-        let words = p[i];
-        let c = counts[i];
-        let kept = Counts {
-            b: c[0],
-            h: c[1],
-            s: c[2],
-            d: c[3],
-        };
-        let q = Predicate { words };
-        bad = bad | difference(q, kept, low);
-        i += 1;
+    // By index: over a `zip` fewer registers are done at a time.
+    for i in 0..p.len().min(counts.len()) {
+        bad |= difference(Predicate { words: p[i] }, counts_in(counts[i]), low);
     }
     bad == 0
 }
@@ -172,7 +136,7 @@ pub fn counts_agree(p: &[[u64; 4]], counts: &[[u16; 4]], low: bool) -> bool
 fn are_all(x: usize, p: usize, counts: usize) -> bool
     ensures { result ≡ (eqb x x_registers && (eqb p register_count && eqb counts counted_registers)) }
 {
-    (x == X_REGISTERS) & ((p == PREDICATES) & (counts == COUNTED))
+    x == X_REGISTERS && p == PREDICATES && counts == COUNTED
 }
 
 // Whether reply 4 does not refuse a state of these settings, registers and counts, whatever its flags. The predicates are joined first, so that one test of stray bits serves all.
@@ -192,72 +156,40 @@ pub fn is_legal(settings: Settings, x: &[u64], p: &[[u64; 4]], counts: &[[u16; 4
     counts_agree(p, counts, pl <= 64)
 }
 
-// Each predicate by its words.
+// Each predicate by its words. By index: `map` moves each element through an `Option`, and of a closure that returns an array no fact is known.
 pub fn words_of(p: [Predicate; PREDICATES]) -> [[u64; 4]; PREDICATES]
     ensures { predicates_of result ≡ p }
 {
-    let mut r = [[0u64; 4]; PREDICATES];
-    let mut i = 0;
-    while i < PREDICATES {
-        let q = p[i];
-        let words = q.words;
-        r[i] = words;
-        i += 1;
+    let mut rows = [[0; 4]; PREDICATES];
+    for r in 0..PREDICATES {
+        rows[r] = p[r].words;
     }
-    r
+    rows
 }
 
-// The predicates of these words.
+// The predicates of these words. By index, since `map` is slower.
 pub fn predicates_of(p: [[u64; 4]; PREDICATES]) -> [Predicate; PREDICATES]
     ensures { result ≡ predicates_of p }
 {
-    let mut r = [Predicate { words: [0; 4] }; PREDICATES];
-    let mut i = 0;
-    while i < PREDICATES {
-        let words = p[i];
-        r[i] = Predicate { words };
-        i += 1;
-    }
-    r
+    std::array::from_fn(|r| Predicate { words: p[r] })
 }
 
 // Each register's counts, as those of B, H, S and D.
 pub fn numbers_of(counts: [Counts; COUNTED]) -> [[u16; 4]; COUNTED]
     ensures { counts_from result ≡ counts }
 {
-    let mut r = [[0u16; 4]; COUNTED];
-    let mut i = 0;
-    while i < COUNTED {
-        let c = counts[i];
-        let numbers = [c.b, c.h, c.s, c.d];
-        r[i] = numbers;
-        i += 1;
+    let mut rows = [[0; 4]; COUNTED];
+    for r in 0..COUNTED {
+        rows[r] = numbers_in(counts[r]);
     }
-    r
+    rows
 }
 
 // The counts of these numbers.
 pub fn counts_of(counts: [[u16; 4]; COUNTED]) -> [Counts; COUNTED]
     ensures { result ≡ counts_from counts }
 {
-    let mut r = [Counts {
-        b: 0,
-        h: 0,
-        s: 0,
-        d: 0,
-    }; COUNTED];
-    let mut i = 0;
-    while i < COUNTED {
-        let c = counts[i];
-        r[i] = Counts {
-            b: c[0],
-            h: c[1],
-            s: c[2],
-            d: c[3],
-        };
-        i += 1;
-    }
-    r
+    std::array::from_fn(|r| counts_in(counts[r]))
 }
 
 // N, Z, C and V.

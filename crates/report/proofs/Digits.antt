@@ -7,13 +7,13 @@ use native.Mathlib.Decide.{dec_lt}
 use native.Mathlib.Nat.{add-zero, add-suc, suc-add, pow-suc, div-lt_iff_lt-mul}
 use native.Mathlib.Numerals.{add-one}
 use native.Mathlib.Omega.{arith}
+use mir.Val.{bool_byte}
 use lib.Dec.{lit<}
-use lib.ListN.{length, drop, get_or, set, length-append, drop_of_length-le}
-use lib.Seq.{drop-cons, sets, set_comm}
+use lib.ListN.{length, set, length-append}
+use lib.Seq.{sets, set_comm}
 use borrow.Author.Tests.{lt-ltb, le-ltb}
 use Rattle.bits.specs.Choice.{digit}
-use Rattle.predicates.specs.declared.Flags.{Flags}
-use Rattle.report.specs.Lines.{symbol, digits, decimal_in, decimal, flag_digits, newline}
+use Rattle.report.specs.Lines.{symbol, digits, decimal_in, decimal}
 
 pub symbol_low : (d : ℕ) → d < 10 → 48 + d ≡ symbol d
 unfolding symbol
@@ -23,13 +23,10 @@ pub symbol_high : (d : ℕ) → 10 ≤ d → 87 + d ≡ symbol d
 unfolding symbol
 symbol_high d h = rw (le-ltb d 10 h)
 
-pub bit-set : (b : Bool) → b ≡ true → 49 ≡ symbol (digit b)
+pub bit_symbol : (b : Bool) → 48 + bool_byte b ≡ symbol (digit b)
 unfolding symbol
-bit-set b e = rw e
-
-pub bit_clear : (b : Bool) → b ≡ false → 48 ≡ symbol (digit b)
-unfolding symbol
-bit_clear b e = rw e
+bit_symbol true = refl
+bit_symbol false = refl
 
 -- ---- stores
 
@@ -67,25 +64,6 @@ pub field_end : (l m : List ℕ) (at i base k v rest s : ℕ) → i ≤ 0 → se
 unfolding digits
 field_end l m at zero base k v rest s h e = rw (e, sets_append l at (digits base k v) (s ∷ []), length_digits)
 field_end l m at (suc i) base k v rest s h e = absurd (omega arith)
-
--- ---- a text
-
-pub text_start : (l : List ℕ) (at : ℕ) (text : List ℕ) → sets l (at + 0) text ≡ sets l at text
-text_start l at text = rw add-zero
-
-pub text-turn : (l : List ℕ) (at i : ℕ) (text : List ℕ) → i < length text
-    → sets (set l (at + i) (get_or text i 0)) (at + (i + 1)) (drop (i + 1) text) ≡ sets l (at + i) (drop i text)
-text-turn l at i text h = rw (drop-cons text i 0 h, add-one, add-suc)
-
-pub text_end : (l : List ℕ) (at i : ℕ) (text : List ℕ) → length text ≤ i → sets l (at + i) (drop i text) ≡ l
-text_end l at i text h = rw (drop_of_length-le text h)
-
-pub flags_put : (l : List ℕ) (at a b c d : ℕ) (f : Flags) → a ≡ symbol (digit f.n) → b ≡ symbol (digit f.z) → c ≡ symbol (digit f.c) → d ≡ symbol (digit f.v)
-    → set (set (set (set (set l at a) (at + 1) b) (at + 2) c) (at + 3) d) (at + 4) newline ≡ sets l at (flag_digits f ++ (newline ∷ []))
-unfolding flag_digits
-flags_put l at a b c d f ea eb ec ed =
-    let x : (k : ℕ) → at + suc k ≡ suc (at + k) = λ k. add-suc at k in
-    rw (x 3, x 2, x 1, x 0, add-zero, ea, eb, ec, ed)
 
 -- ---- decimal digits
 

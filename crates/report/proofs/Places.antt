@@ -66,20 +66,20 @@ module _ (n w r : ℕ) (f : Flags) (x y : ℕ) (ex : x ≡ length (decimal n)) (
   pub word-length : x + y + 16 ≡ length (word_line n w r f)
   word-length = rw word_fields (simp (length-append, length_digits, flags_length) (omega arith))
 
-  pub word_put : (l a b c d : List ℕ) (at : ℕ) → a ≡ sets l at f1 → b ≡ sets a (at + x + 1) f2 → c ≡ sets b (at + x + 10) f3 → d ≡ sets c (at + x + y + 11) f4
+  pub word_put : (l a b c d : List ℕ) (at p q t s : ℕ) → s ≡ r → a ≡ sets l at f1 → p ≡ at + x + 1 → b ≡ sets a p f2 → q ≡ p + 8 + 1 → c ≡ sets b q (digits 10 y s ++ (space ∷ [])) → t ≡ q + y + 1 → d ≡ sets c t f4
       → d ≡ sets l at (word_line n w r f)
-  word_put l a b c d at ea eb ec ed =
+  word_put l a b c d at p q t s es ea ep eb eq ec et ed =
       ed
-      ∙ sym (ap (sets l at) word_fields ∙ more l a at (at + x + 1) f1 (f2 ++ (f3 ++ f4)) ea (rw (field_length 10 x n space) (omega arith))
-      ∙ more a b (at + x + 1) (at + x + 10) f2 (f3 ++ f4) eb (rw (field_length 16 8 w space) (omega arith))
-      ∙ more b c (at + x + 10) (at + x + y + 11) f3 f4 ec (rw (field_length 10 y r space) (omega arith)))
+      ∙ sym (ap (sets l at) word_fields ∙ more l a at p f1 (f2 ++ (f3 ++ f4)) ea (rw (field_length 10 x n space) (omega arith))
+      ∙ more a b p q f2 (f3 ++ f4) eb (rw (field_length 16 8 w space) (omega arith))
+      ∙ more b c q t f3 f4 (rw es at ec) (rw (field_length 10 y r space) (omega arith)))
 
 -- a text, a decimal number and a newline
 pub text-length : (text : List ℕ) (n x : ℕ) → x ≡ length (decimal n) → x + (length text + 1) ≡ length (text ++ (decimal n ++ (newline ∷ [])))
 text-length text n x e = simp length-append (omega arith)
 
-pub text_put : (text : List ℕ) (n x : ℕ) → x ≡ length (decimal n) → (l a b : List ℕ) (at : ℕ) → a ≡ sets l at text → b ≡ sets a (at + length text) (digits 10 x n ++ (newline ∷ []))
+pub text_put : (text : List ℕ) (n x : ℕ) → x ≡ length (decimal n) → (l a b : List ℕ) (at next : ℕ) → a ≡ sets l at text → next ≡ at + length text → b ≡ sets a next (digits 10 x n ++ (newline ∷ []))
     → b ≡ sets l at (text ++ (decimal n ++ (newline ∷ [])))
-text_put text n x e l a b at ea eb =
-    eb ∙ ap (λ (z : List ℕ). sets a (at + length text) (z ++ (newline ∷ []))) (sym (decimal-digits n ∙ ap (λ (j : ℕ). digits 10 j n) (sym e)))
-    ∙ sym (more l a at (at + length text) text (decimal n ++ (newline ∷ [])) ea refl)
+text_put text n x e l a b at next ea en eb =
+    eb ∙ ap (λ (z : List ℕ). sets a next (z ++ (newline ∷ []))) (sym (decimal-digits n ∙ ap (λ (j : ℕ). digits 10 j n) (sym e)))
+    ∙ sym (more l a at next text (decimal n ++ (newline ∷ [])) ea en)

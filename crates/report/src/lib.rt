@@ -20,17 +20,16 @@ pub fn word_line(
     ensures value { result ≡ after (word_line number word reply flags) at (length buffer.old) }
     ensures buffer_after { buffer.new ≡ placed (word_line number word reply flags) at buffer.old }
 {
-    let short = reply as u32;
+    let short = u32::from(reply);
     let a = width(number);
     let b = width(short);
-    if left(buffer.len(), at) < a + b + 16 {
+    if buffer.len().saturating_sub(at) < a + b + 16 {
         return at;
     }
-    put_field(buffer, at, a, 10, number, b' ');
-    put_field(buffer, at + a + 1, 8, 16, word, b' ');
-    put_field(buffer, at + a + 10, b, 10, short, b' ');
-    put_flags(buffer, at + a + b + 11, flags);
-    at + a + b + 16
+    let at = put_field(buffer, at, a, 10, number, b' ');
+    let at = put_field(buffer, at, 8, 16, word, b' ');
+    let at = put_field(buffer, at, b, 10, short, b' ');
+    put_flags(buffer, at, flags)
 }
 
 // The last line: how many words were done.
@@ -39,12 +38,11 @@ pub fn end_line(done: u32, at: usize, buffer: &mut [u8]) -> usize
     ensures buffer_after { buffer.new ≡ placed (end_line done) at buffer.old }
 {
     let a = width(done);
-    if left(buffer.len(), at) < a + 5 {
+    if buffer.len().saturating_sub(at) < a + 5 {
         return at;
     }
-    put_text(buffer, at, b"end ");
-    put_field(buffer, at + 4, a, 10, done, b'\n');
-    at + a + 5
+    let at = put_text(buffer, at, b"end ");
+    put_field(buffer, at, a, 10, done, b'\n')
 }
 
 // The only line of a refused image.
@@ -52,24 +50,13 @@ pub fn image_line(reply: u8, at: usize, buffer: &mut [u8]) -> usize
     ensures value { result ≡ after (image_line reply) at (length buffer.old) }
     ensures buffer_after { buffer.new ≡ placed (image_line reply) at buffer.old }
 {
-    let short = reply as u32;
+    let short = u32::from(reply);
     let a = width(short);
-    if left(buffer.len(), at) < a + 7 {
+    if buffer.len().saturating_sub(at) < a + 7 {
         return at;
     }
-    put_text(buffer, at, b"image ");
-    put_field(buffer, at + 6, a, 10, short, b'\n');
-    at + a + 7
-}
-
-// How many bytes are left from `at` on.
-fn left(room: usize, at: usize) -> usize
-    ensures { result ≡ room - at }
-{
-    if room < at {
-        return 0;
-    }
-    room - at
+    let at = put_text(buffer, at, b"image ");
+    put_field(buffer, at, a, 10, short, b'\n')
 }
 
 // How many decimal digits n has.
@@ -78,63 +65,66 @@ fn width(n: u32) -> usize
 {
     let mut w: usize = 1;
     let mut v = n;
+    // By value: std has no logarithm to the base 10.
     while 10 <= v {
-        v = v / 10;
+        v /= 10;
         w += 1;
     }
     w
 }
 
+// A digit below 16.
 fn symbol(d: u8) -> u8
     requires { d < 16 }
     ensures { result ≡ symbol_of d }
 {
-    if d < 10 {
-        return 48 + d;
-    }
-    87 + d
+    if d < 10 { b'0' + d } else { b'a' + d - 10 }
 }
 
-// The k lowest digits of v, most significant first, and the byte `end`.
-fn put_field(buffer: &mut [u8], at: usize, k: usize, base: u32, v: u32, end: u8)
+// The k lowest digits of v, most significant first, and the byte `end`: the position after them.
+fn put_field(buffer: &mut [u8], at: usize, k: usize, base: u32, v: u32, end: u8) -> usize
     requires { (at + k < length buffer.old) × ((0 < base) × (base ≤ 16)) }
-    ensures { buffer.new ≡ sets buffer.old at (digits base k v ++ (end ∷ [])) }
+    ensures value { result ≡ at + k + 1 }
+    ensures buffer_after { buffer.new ≡ sets buffer.old at (digits base k v ++ (end ∷ [])) }
 {
     let mut rest = v;
-    let mut i = k;
-    while 0 < i {
-        i -= 1;
+    for i in (0..k).rev() {
         buffer[at + i] = symbol((rest % base) as u8);
-        rest = rest / base;
+        rest /= base;
     }
     buffer[at + k] = end;
+    at + k + 1
 }
 
-// NZCV and a newline.
-fn put_flags(buffer: &mut [u8], at: usize, flags: Flags)
+// NZCV and a newline: the position after them.
+fn put_flags(buffer: &mut [u8], at: usize, flags: Flags) -> usize
     requires { at + 5 ≤ length buffer.old }
-    ensures { buffer.new ≡ sets buffer.old at (flag_digits flags ++ (newline ∷ [])) }
+    ensures value { result ≡ at + 5 }
+    ensures buffer_after { buffer.new ≡ sets buffer.old at (flag_digits flags ++ (newline ∷ [])) }
 {
-    buffer[at] = bit(flags.n);
-    buffer[at + 1] = bit(flags.z);
-    buffer[at + 2] = bit(flags.c);
-    buffer[at + 3] = bit(flags.v);
-    buffer[at + 4] = b'\n';
+    let text = [
+        bit(flags.n),
+        bit(flags.z),
+        bit(flags.c),
+        bit(flags.v),
+        b'\n',
+    ];
+    put_text(buffer, at, &text)
 }
 
 fn bit(b: bool) -> u8
     ensures { result ≡ symbol_of (digit b) }
 {
-    if b { 49 } else { 48 }
+    b'0' + u8::from(b)
 }
 
-fn put_text(buffer: &mut [u8], at: usize, text: &[u8])
+// A text: the position after it.
+fn put_text(buffer: &mut [u8], at: usize, text: &[u8]) -> usize
     requires { at + length text.now ≤ length buffer.old }
-    ensures { buffer.new ≡ sets buffer.old at text.now }
+    ensures value { result ≡ at + length text.now }
+    ensures buffer_after { buffer.new ≡ sets buffer.old at text.now }
 {
-    let mut i = 0;
-    while i < text.len() {
-        buffer[at + i] = text[i];
-        i += 1;
-    }
+    let end = at + text.len();
+    buffer[at..end].copy_from_slice(text);
+    end
 }

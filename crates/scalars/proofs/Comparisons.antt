@@ -19,13 +19,12 @@ operand_next w up a i = ap (operand_at w up a) (add-one i)
 
 -- the loop of comparisons: before turn i the operand is that of comparison i, and the first that fails is sought from i on
 pub record At (w : Width) (unsigned : Bool) (c : Condition) (a b n operand i : ℕ) : Type 0 where
-  pub within : i ≤ n
   pub operand_is : operand ≡ operand_at w (upward c) a i
   pub sought : first_from (λ e. not (comparison w unsigned c a b e)) i n ≡ held_of (comparison w unsigned c a b) n
 
 module _ (w : Width) (unsigned : Bool) (c : Condition) (a b n : ℕ) where
   pub begin : At w unsigned c a b n a 0
-  begin = record { within = omega arith; operand_is = sym (operand_first w (upward c) a); sought = refl }
+  begin = record { operand_is = sym (operand_first w (upward c) a); sought = refl }
 
   now : (operand i : ℕ) (t : Bool) → At w unsigned c a b n operand i → t ≡ holds c (value_as w unsigned operand) (value_as w unsigned b) → t ≡ comparison w unsigned c a b i
   unfolding comparison
@@ -36,7 +35,6 @@ module _ (w : Width) (unsigned : Bool) (c : Condition) (a b n : ℕ) where
       → up ≡ upward c → next ≡ next_operand w up operand → At w unsigned c a b n next (i + 1)
   again operand next i t up s l e h eu en =
       record {
-        within = omega arith;
         operand_is = en ∙ ap (λ (u : Bool). next_operand w u operand) eu ∙ ap (next_operand w (upward c)) s.operand_is ∙ sym (operand_next w (upward c) a i);
         sought = sym (first_miss _ i n l (ap not (sym (now operand i t s e) ∙ h))) ∙ s.sought;
       }
@@ -47,8 +45,10 @@ module _ (w : Width) (unsigned : Bool) (c : Condition) (a b n : ℕ) where
   stops operand i t s l e h = sym (first_hit _ i n l (ap not (sym (now operand i t s e) ∙ h))) ∙ s.sought
 
   -- all hold
-  pub ends : (operand i : ℕ) → At w unsigned c a b n operand i → n ≤ i → i ≡ held_of (comparison w unsigned c a b) n
-  ends operand i s l = sym (first_end _ i n l) ∙ s.sought
+  pub ends : (operand i : ℕ) → At w unsigned c a b n operand i → i ≤ n → n ≤ i → n ≡ held_of (comparison w unsigned c a b) n
+  ends operand i s u l =
+      let last : n ≡ i = omega arith in
+      last ∙ sym (first_end _ i n l) ∙ s.sought
 
 -- ---- the comparisons that held with all earlier ones
 

@@ -1,4 +1,3 @@
 -- Laws of WHILE's comparisons and of saturation. Callers' proofs cite them.
-pub mod Values
 pub mod Comparisons
 pub mod Clamps

@@ -3,17 +3,19 @@
 // A saturating sum stops at the ends of its own range, signed or unsigned, and is extended to 64 bits.
 #![tactic(auto)]
 
-ghost use Rattle.std.specs.Prelude.{◌≡◌, ◌+◌, ◌%◌, ◌≤◌, true, false, pos};
-ghost use Rattle.std.specs.Int.{w32, w64};
+ghost use Rattle.std.specs.Prelude.{◌≡◌, ℕ, ℤ, pos, Some};
+ghost use Rattle.std.specs.Int.{Width, w32, w64};
 ghost use Rattle.std.proofs.Common.{to_z, of_z};
+ghost use Rattle.std.specs.Ordering.{int_cmp};
+ghost use Rattle.std.proofs.Common.{rules};
+ghost use Rattle.scalars.specs.Inside.{OrderedAs};
 ghost use Rattle.bits.specs.Search.{count};
 ghost use Rattle.scalars.specs.Value.{width_of, low_of, value_as};
 ghost use Rattle.scalars.specs.While.{holds, upward, next_operand, comparison, all_held};
-ghost use Rattle.scalars.specs.Inside.{held_of};
-ghost use Rattle.scalars.specs.Saturate.{clamp, saturated, moved, saturating};
+ghost use Rattle.scalars.specs.Saturate.{saturated, moved, saturating};
 
 // The comparison of a WHILE.
-#[derive(Clone, Copy)]
+#[derive(Clone, Copy, PartialEq, Eq, Debug)]
 pub enum Condition {
     Less,
     LessEqual,
@@ -25,33 +27,24 @@ pub enum Condition {
 pub fn signed64(x: u64) -> i64
     ensures { result ≡ to_z w64 x }
 {
-    if x < 0x8000_0000_0000_0000 {
-        return x as i64;
-    }
-    -1 - ((0xffff_ffff_ffff_ffff - x) as i64)
+    u64::cast_signed(x)
 }
 
 // The bits of `x` in two's complement.
 pub fn signed32(x: u32) -> i32
     ensures { result ≡ to_z w32 x }
 {
-    if x < 0x8000_0000 {
-        return x as i32;
-    }
-    -1 - ((0xffff_ffff - x) as i32)
+    u32::cast_signed(x)
 }
 
 // The bits that stand for `v`.
 pub fn bits_of(v: i64) -> u64
     ensures { result ≡ of_z w64 v }
 {
-    if v < 0 {
-        return 0xffff_ffff_ffff_ffff - ((-1 - v) as u64);
-    }
-    v as u64
+    v.cast_unsigned()
 }
 
-// The register's low word.
+// The register's low word: `as` takes only what fits.
 pub fn low_word(x: u64) -> u32
     ensures { result ≡ low_of w32 x }
 {
@@ -62,16 +55,119 @@ pub fn low_word(x: u64) -> u32
 pub fn counts_up(condition: Condition) -> bool
     ensures { result ≡ upward condition }
 {
-    match condition {
-        Condition::Less => true,
-        Condition::LessEqual => true,
-        Condition::GreaterEqual => false,
-        Condition::Greater => false,
+    matches!(condition, Condition::Less | Condition::LessEqual)
+}
+
+// What an instruction reads of a general register: all of it, or its low word.
+trait Operand: Copy + PartialOrd {
+    type Signed: Copy + PartialOrd;
+
+    ghost width: { Width };
+
+    // Its bits.
+    ghost value: { Self → ℕ };
+
+    // What a signed value stands for.
+    ghost number: { Self.Signed → ℤ };
+
+    fn of(register: u64) -> Self
+        ensures { value result ≡ low_of width register };
+
+    // The bits in two's complement.
+    fn signed(self) -> Self::Signed
+        ensures { number result ≡ to_z width (value self) };
+
+    // Incremented by one or decremented, wrapping at the width: all ones are -1.
+    fn next(self, up: bool) -> Self
+        ensures { value result ≡ next_operand width up (value self) };
+
+    // Moved by a count, saturated at the width and extended to 64 bits.
+    fn saturated(self, decrement: bool, unsigned: bool, n: u16) -> u64
+        ensures { result ≡ of_z w64 (saturated width unsigned (moved decrement (value_as width unsigned (value self)) n)) };
+
+    // Both types are ordered as numbers are.
+    ghost ordered: { OrderedAs Self.partial_cmp (λ x. pos (value x)) };
+
+    ghost signed_ordered: { OrderedAs Self.Signed.partial_cmp number };
+}
+
+impl Operand for u64 {
+    type Signed = i64;
+
+    ghost width = { w64 };
+
+    ghost value = { λ x. x };
+
+    ghost number = { λ z. z };
+
+    ghost ordered = { λ x y. Prim.search rules };
+
+    ghost signed_ordered = { λ x y. Prim.search rules };
+
+    fn of(register: u64) -> u64 {
+        register
+    }
+
+    fn signed(self) -> i64 {
+        self.cast_signed()
+    }
+
+    fn next(self, up: bool) -> u64 {
+        self.wrapping_add(if up { 1 } else { u64::MAX })
+    }
+
+    #[tactic(auto, using(crate::proofs::Clamps::stops))]
+    fn saturated(self, decrement: bool, unsigned: bool, n: u16) -> u64 {
+        let k = u64::from(n);
+        match (unsigned, decrement) {
+            (true, true) => self.saturating_sub(k),
+            (true, false) => self.saturating_add(k),
+            (false, true) => bits_of(self.cast_signed().saturating_sub_unsigned(k)),
+            (false, false) => bits_of(self.cast_signed().saturating_add_unsigned(k)),
+        }
     }
 }
 
-fn holds_u64(condition: Condition, a: u64, b: u64) -> bool
-    ensures { result ≡ holds condition (pos a) (pos b) }
+impl Operand for u32 {
+    type Signed = i32;
+
+    ghost width = { w32 };
+
+    ghost value = { λ x. x };
+
+    ghost number = { λ z. z };
+
+    ghost ordered = { λ x y. Prim.search rules };
+
+    ghost signed_ordered = { λ x y. Prim.search rules };
+
+    fn of(register: u64) -> u32 {
+        low_word(register)
+    }
+
+    fn signed(self) -> i32 {
+        self.cast_signed()
+    }
+
+    fn next(self, up: bool) -> u32 {
+        self.wrapping_add(if up { 1 } else { u32::MAX })
+    }
+
+    #[tactic(auto, using(crate::proofs::Clamps::stops))]
+    fn saturated(self, decrement: bool, unsigned: bool, n: u16) -> u64 {
+        let k = u32::from(n);
+        match (unsigned, decrement) {
+            (true, true) => u64::from(self.saturating_sub(k)),
+            (true, false) => u64::from(self.saturating_add(k)),
+            (false, true) => bits_of(i64::from(self.cast_signed().saturating_sub_unsigned(k))),
+            (false, false) => bits_of(i64::from(self.cast_signed().saturating_add_unsigned(k))),
+        }
+    }
+}
+
+// The comparison, where the order of `T` is that of numbers.
+fn holds<T: Copy + PartialOrd>(condition: Condition, a: T, b: T) -> bool
+    ensures { (x y : ℤ) → T.partial_cmp a b ≡ Some (int_cmp x y) → result ≡ holds condition x y }
 {
     match condition {
         Condition::Less => a < b,
@@ -81,88 +177,30 @@ fn holds_u64(condition: Condition, a: u64, b: u64) -> bool
     }
 }
 
-fn holds_i64(condition: Condition, a: i64, b: i64) -> bool
-    ensures { result ≡ holds condition a b }
-{
-    match condition {
-        Condition::Less => a < b,
-        Condition::LessEqual => a <= b,
-        Condition::GreaterEqual => a >= b,
-        Condition::Greater => a > b,
-    }
-}
-
-fn holds_i32(condition: Condition, a: i32, b: i32) -> bool
-    ensures { result ≡ holds condition a b }
-{
-    match condition {
-        Condition::Less => a < b,
-        Condition::LessEqual => a <= b,
-        Condition::GreaterEqual => a >= b,
-        Condition::Greater => a > b,
-    }
-}
-
-fn compare64(condition: Condition, unsigned: bool, a: u64, b: u64) -> bool
-    ensures { result ≡ holds condition (value_as w64 unsigned a) (value_as w64 unsigned b) }
+// The comparison of two operands, unsigned or signed.
+fn compare<T: Operand>(condition: Condition, unsigned: bool, a: T, b: T) -> bool
+    ensures { result ≡ holds condition (value_as T.width unsigned (T.value a)) (value_as T.width unsigned (T.value b)) }
 {
     if unsigned {
-        return holds_u64(condition, a, b);
+        return holds(condition, a, b);
     }
-    holds_i64(condition, signed64(a), signed64(b))
+    holds(condition, a.signed(), b.signed())
 }
 
-fn compare32(condition: Condition, unsigned: bool, a: u32, b: u32) -> bool
-    ensures { result ≡ holds condition (value_as w32 unsigned a) (value_as w32 unsigned b) }
-{
-    if unsigned {
-        return holds_u64(condition, a as u64, b as u64);
-    }
-    holds_i32(condition, signed32(a), signed32(b))
-}
-
-fn step64(up: bool, a: u64) -> u64
-    ensures { result ≡ next_operand w64 up a }
-{
-    if up {
-        return std::num::wrapping_add_u64(a, 1);
-    }
-    std::num::wrapping_sub_u64(a, 1)
-}
-
-fn step32(up: bool, a: u32) -> u32
-    ensures { result ≡ next_operand w32 up a }
-{
-    if up {
-        return std::num::wrapping_add_u32(a, 1);
-    }
-    std::num::wrapping_sub_u32(a, 1)
-}
-
-fn held64(condition: Condition, unsigned: bool, a: u64, b: u64, n: u64) -> u64
-    ensures { result ≡ held_of (comparison w64 unsigned condition a b) n }
+// `held` at a width.
+fn held_in<T: Operand>(condition: Condition, unsigned: bool, a: u64, b: u64, n: u64) -> u64
+    ensures { result ≡ count (all_held (comparison T.width unsigned condition (low_of T.width a) (low_of T.width b))) n }
 {
     let up = counts_up(condition);
-    let mut operand = a;
-    let mut i = 0;
-    while i < n && compare64(condition, unsigned, operand, b) {
-        operand = step64(up, operand);
-        i += 1;
+    let last = T::of(b);
+    let mut operand = T::of(a);
+    for i in 0..n {
+        if !compare(condition, unsigned, operand, last) {
+            return i;
+        }
+        operand = operand.next(up);
     }
-    i
-}
-
-fn held32(condition: Condition, unsigned: bool, a: u32, b: u32, n: u64) -> u64
-    ensures { result ≡ held_of (comparison w32 unsigned condition a b) n }
-{
-    let up = counts_up(condition);
-    let mut operand = a;
-    let mut i = 0;
-    while i < n && compare32(condition, unsigned, operand, b) {
-        operand = step32(up, operand);
-        i += 1;
-    }
-    i
+    n
 }
 
 // How many of `n` comparisons of a WHILE hold, each with all earlier ones.
@@ -170,94 +208,18 @@ pub fn held(condition: Condition, unsigned: bool, wide: bool, a: u64, b: u64, n:
     ensures { result ≡ count (all_held (comparison (width_of wide) unsigned condition (low_of (width_of wide) a) (low_of (width_of wide) b))) n }
 {
     if wide {
-        return held64(condition, unsigned, a, b, n);
+        return held_in::<u64>(condition, unsigned, a, b, n);
     }
-    held32(condition, unsigned, low_word(a), low_word(b), n)
-}
-
-fn decrement64(v: i64, n: u16) -> i64
-    ensures { result ≡ saturated w64 false (moved true v n) }
-{
-    let k = n as i64;
-    if v < -9223372036854775808 + k {
-        return -9223372036854775808;
-    }
-    v - k
-}
-
-fn increment64(v: i64, n: u16) -> i64
-    ensures { result ≡ saturated w64 false (moved false v n) }
-{
-    let k = n as i64;
-    if 9223372036854775807 - k < v {
-        return 9223372036854775807;
-    }
-    v + k
-}
-
-fn decrement32(v: i32, n: u16) -> i32
-    ensures { result ≡ saturated w32 false (moved true v n) }
-{
-    let k = n as i32;
-    if v < -2147483648 + k {
-        return -2147483648;
-    }
-    v - k
-}
-
-fn increment32(v: i32, n: u16) -> i32
-    ensures { result ≡ saturated w32 false (moved false v n) }
-{
-    let k = n as i32;
-    if 2147483647 - k < v {
-        return 2147483647;
-    }
-    v + k
-}
-
-// SQDECP and SQINCP.
-fn saturate_signed(decrement: bool, wide: bool, x: u64, n: u16) -> u64
-    ensures { result ≡ saturating (width_of wide) false decrement x n }
-{
-    if wide {
-        if decrement {
-            return bits_of(decrement64(signed64(x), n));
-        }
-        return bits_of(increment64(signed64(x), n));
-    }
-    if decrement {
-        return bits_of(decrement32(signed32(low_word(x)), n) as i64);
-    }
-    bits_of(increment32(signed32(low_word(x)), n) as i64)
-}
-
-// UQDECP and UQINCP.
-fn saturate_unsigned(decrement: bool, wide: bool, x: u64, n: u16) -> u64
-    ensures { result ≡ saturating (width_of wide) true decrement x n }
-{
-    let k = n as u64;
-    if wide {
-        return moved_below(decrement, 0xffff_ffff_ffff_ffff, x, k);
-    }
-    moved_below(decrement, 0xffff_ffff, x % 0x1_0000_0000, k)
-}
-
-fn moved_below(decrement: bool, greatest: u64, x: u64, k: u64) -> u64
-    requires { x ≤ greatest }
-    ensures { pos result ≡ clamp (pos 0) (pos greatest) (moved decrement (pos x) k) }
-{
-    if decrement {
-        return if x < k { 0 } else { x - k };
-    }
-    if greatest - x < k { greatest } else { x + k }
+    held_in::<u32>(condition, unsigned, a, b, n)
 }
 
 // A register moved by a count of elements, saturated at its width and extended to 64 bits.
+#[tactic(auto, unfolding(crate::specs::Saturate::saturating))]
 pub fn saturate(decrement: bool, unsigned: bool, wide: bool, x: u64, n: u16) -> u64
     ensures { result ≡ saturating (width_of wide) unsigned decrement x n }
 {
-    if unsigned {
-        return saturate_unsigned(decrement, wide, x, n);
+    if wide {
+        return u64::of(x).saturated(decrement, unsigned, n);
     }
-    saturate_signed(decrement, wide, x, n)
+    u32::of(x).saturated(decrement, unsigned, n)
 }

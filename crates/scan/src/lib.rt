@@ -15,17 +15,12 @@ use predicates::Predicate;
 pub fn next_active(mask: Predicate, size: Size, start: u64, elements: u64) -> u64
     ensures { result ≡ first_from (active (shift size) mask) start elements }
 {
-    let mut next = start;
-    let found = loop {
-        if elements <= next {
-            break next;
-        }
+    for next in start..elements {
         if mask.is_active(size, next) {
-            break next;
+            return next;
         }
-        next += 1;
-    };
-    found
+    }
+    start.max(elements)
 }
 
 // The search element by element.

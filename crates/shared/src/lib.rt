@@ -16,6 +16,7 @@ use machine::Machine;
 use predicates::Flags;
 use registers::State;
 use replies::{Refusal, Reply};
+use walk::Request;
 
 #[derive(Clone, Copy, PartialEq, Eq, Debug)]
 pub enum Kernel {
@@ -108,13 +109,13 @@ impl Kernel {
         }
     }
 
-    fn may_walk(self, n: u32, m: u32, d: u32, k: u32) -> bool
-        ensures { result ≡ may_walk self n m d k }
+    fn may_walk(self, request: Request) -> bool
+        ensures { result ≡ may_walk self request.n request.m request.d request.k }
     {
-        self.may_name_x(u64::from(n))
-            && self.may_name_x(u64::from(m))
-            && self.may_name_p(u64::from(d))
-            && self.may_name_p(u64::from(k))
+        self.may_name_x(u64::from(request.n))
+            && self.may_name_x(u64::from(request.m))
+            && self.may_name_p(u64::from(request.d))
+            && self.may_name_p(u64::from(request.k))
     }
 }
 
@@ -191,24 +192,14 @@ impl Shared {
     }
 
     // A kernel's walk from Xn to Xm with lanes Pd and cursor Pk: each position visited goes to the next place of `list`.
-    pub fn walk(
-        self,
-        kernel: Kernel,
-        size: u32,
-        n: u32,
-        m: u32,
-        d: u32,
-        k: u32,
-        list: &mut [u64],
-        budget: u64,
-    ) -> Walked
-        ensures answer { result ≡ walk_of kernel size n m d k budget self list.old }
-        ensures places { list.new ≡ list_of kernel size n m d k budget self list.old }
-        ensures demand { refusal_of kernel size n m d k self (length list.old) ≡ Ok tt → Demand3 (size_of size) n m d k budget (state_for kernel self) list.old list.new (walked_by kernel result) }
+    pub fn walk(self, kernel: Kernel, request: Request, list: &mut [u64], budget: u64) -> Walked
+        ensures answer { result ≡ walk_of kernel request.size request.n request.m request.d request.k budget self list.old }
+        ensures places { list.new ≡ list_of kernel request.size request.n request.m request.d request.k budget self list.old }
+        ensures demand { refusal_of kernel request.size request.n request.m request.d request.k self (length list.old) ≡ Ok tt → Demand3 (size_of request.size) request.n request.m request.d request.k budget (state_for kernel self) list.old list.new (walked_by kernel result) }
     {
         let state = self.state_for(kernel);
-        if !kernel.may_walk(n, m, d, k) {
-            let reply = walk::refusal(state, size, n, m, d, k, list.len());
+        if !kernel.may_walk(request) {
+            let reply = walk::refusal(state, request, list.len());
             return Walked {
                 reply: barred(reply),
                 count: 0,
@@ -216,7 +207,7 @@ impl Shared {
                 shared: self,
             };
         }
-        let walked = walk::walk(state, size, n, m, d, k, list, budget);
+        let walked = walk::walk(state, request, list, budget);
         Walked {
             reply: walked.reply,
             count: walked.count,

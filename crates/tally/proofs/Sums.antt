@@ -20,12 +20,16 @@ byte-and v m x h =
     ∙ and_block 8 (x / 256) (rep v m) (x % 256) v (mod-lt x (lit< tt)) h
 
 -- the low half of a byte
-pub lows_is : (m x : ℕ) → bit_and x (rep 15 m) ≡ lows m x
+lows_is : (m x : ℕ) → bit_and x (rep 15 m) ≡ lows m x
 unfolding rep lows
 lows_is zero x = and_zero_r x
 lows_is (suc m) x =
     let low : bit_and (x % 256) 15 ≡ x % 16 = and_mask (x % 256) 4 ∙ mod-mod-pow x 4 4 in
     byte-and 15 m x (lit< tt) ∙ ap₂ (λ (p q : ℕ). p * 256 + q) (lows_is m (x / 256)) low
+
+pub low_halves : (x : ℕ) → bit_and x 0x0f0f_0f0f_0f0f_0f0f ≡ lows 8 x
+unfolding rep
+low_halves x = lows_is 8 x
 
 -- bits 0 and 4 of a byte
 ends : (x : ℕ) → bit_and (x % 256) 17 ≡ x % 2 + x / 16 % 2 * 16

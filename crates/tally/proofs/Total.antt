@@ -15,14 +15,13 @@ use Rattle.predicates.proofs.Words.{word, bit_in_word}
 use Rattle.tally.specs.declared.Planes.{Planes}
 use Rattle.tally.specs.Planes.{plane, lows, low_sum, planes_of, planes_in, sums_of}
 use Rattle.tally.specs.Tally.{packed, true_of, tally, tally_of, tally_in}
-use Rattle.tally.proofs.Sums.{rep, odds, four_odds, lows_is, plane_is, plane-low, plane_high, planes_low, planes_high}
+use Rattle.tally.proofs.Sums.{rep, odds, four_odds, low_halves, plane_is, plane-low, plane_high, planes_low, planes_high}
 use Rattle.tally.proofs.Sizes.{tally_is}
 
 -- ---- bounds
 
 pub lows-le : (x : ℕ) → lows 8 x ≤ 0x0f0f_0f0f_0f0f_0f0f
-unfolding rep
-lows-le x = le_trans (le_of_eq (sym (lows_is 8 x))) (and_le_r x (rep 15 8))
+lows-le x = le_trans (le_of_eq (sym (low_halves x))) (and_le_r x 0x0f0f_0f0f_0f0f_0f0f)
 
 pub plane-le : (a b c d : ℕ) → plane 8 a b c d ≤ 0x4444_4444_4444_4444
 unfolding rep
@@ -39,6 +38,8 @@ low_sum-le x = eight _ _ _ _ _ _ _ _ (at _) (at _) (at _) (at _) (at _) (at _) (
 
     eight : (a b c d e f g h : ℕ) → a ≤ 15 → b ≤ 15 → c ≤ 15 → d ≤ 15 → e ≤ 15 → f ≤ 15 → g ≤ 15 → h ≤ 15 → 0 + a + b + c + d + e + f + g + h ≤ 120
     eight a b c d e f g h ha hb hc hd he hf hg hh = omega arith
+
+pub ruleset small_sums = (lows-le, low_sum-le)
 
 -- ---- four words
 

@@ -1,5 +1,5 @@
 -- A predicate under a vector's elements: what the four counts are, and that its first word is enough up to 64 bits. Assumes nothing.
-use mathlib.Core.Bool.{Bool, true, false, ◌&&◌}
+use mathlib.Core.Bool.{Bool, true, false, ◌&&◌, and-true, and-false}
 use mathlib.Core.List.{[], ◌∷◌}
 use mathlib.Core.Path.{◌≡◌, refl, sym, ap, ◌∙◌}
 use Prim.Native.Nat.{ℕ, ◌+◌, ◌*◌, ◌/◌, ◌%◌, ◌^◌, ◌≤◌, ◌<◌}
@@ -84,14 +84,6 @@ under vl p b = bit_at p b && bit_at (live_of vl B) b
 
 under_is : (vl : ℕ) (p : Predicate) (b : ℕ) → b < 256 → under vl p b ≡ (bit_at p b && ltb b (predicate_length vl))
 under_is vl p b h = ap (λ (x : Bool). bit_at p b && x) (byte-bit (elements vl B) b h ∙ ap (ltb b) (elements_bytes vl))
-
-and-true : (b : Bool) → (b && true) ≡ b
-and-true true = refl
-and-true false = refl
-
-and-false : (b : Bool) → (b && false) ≡ false
-and-false true = refl
-and-false false = refl
 
 under_none : (vl : ℕ) (p : Predicate) → has_bit_from (predicate_length vl) (pack (under vl p)) ≡ false
 under_none vl p =

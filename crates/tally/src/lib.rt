@@ -4,7 +4,7 @@
 
 ghost use Rattle.std.specs.Prelude.{true, false, ◌≡◌, ◌+◌, ◌*◌, ◌/◌, ◌%◌, ◌^◌, ◌<◌};
 ghost use Rattle.std.specs.Int.Bits.{bit_and};
-ghost use Rattle.tally.specs.Counts.{no_counts, counts_of, count_at};
+ghost use Rattle.tally.specs.Counts.{no_counts, counts_of, count_at, true_elements};
 ghost use Rattle.tally.specs.Tally.{packed, packed_of, counts_in};
 ghost use Rattle.tally.specs.Planes.{lows, low_sum, byte_sum, fields, planes_of, planes_in, sums_of};
 
@@ -13,7 +13,7 @@ use predicates::Predicate;
 
 // How many elements are true at each size.
 #[repr(C)]
-#[derive(Clone, Copy)]
+#[derive(Clone, Copy, PartialEq, Eq, Debug)]
 pub struct Counts {
     pub b: u16,
     pub h: u16,
@@ -43,6 +43,7 @@ impl Counts {
             return size_by_size(p, vl);
         }
         let q = p.and(Predicate::live(vl, Size::B));
+        // Each way has its own call of `tally_in`, which is compiled in at both.
         if pl <= 64 {
             return counts_in(tally_in(first_planes(q)));
         }
@@ -65,22 +66,32 @@ impl Counts {
     pub fn packed(self) -> u64
         ensures { result ≡ packed_of self }
     {
-        (self.b as u64)
-            + (self.h as u64) * 0x1_0000
-            + (self.s as u64) * 0x1_0000_0000
-            + (self.d as u64) * 0x1_0000_0000_0000
+        u64::from(self.b)
+            + u64::from(self.h) * 0x1_0000
+            + u64::from(self.s) * 0x1_0000_0000
+            + u64::from(self.d) * 0x1_0000_0000_0000
     }
 }
 
+// The counts, each by a count of its own.
+#[tactic(auto, unfolding(crate::specs::Counts::counts_of))]
 fn size_by_size(p: Predicate, vl: u64) -> Counts
     ensures { result ≡ counts_of vl p }
 {
     Counts {
-        b: p.count_active(vl, Size::B) as u16,
-        h: p.count_active(vl, Size::H) as u16,
-        s: p.count_active(vl, Size::S) as u16,
-        d: p.count_active(vl, Size::D) as u16,
+        b: true_elements(p, vl, Size::B),
+        h: true_elements(p, vl, Size::H),
+        s: true_elements(p, vl, Size::S),
+        d: true_elements(p, vl, Size::D),
     }
+}
+
+// How many elements are true at a size.
+#[tactic(auto, using(crate::proofs::Within::elements_small))]
+fn true_elements(p: Predicate, vl: u64, size: Size) -> u16
+    ensures { result ≡ true_elements vl size p }
+{
+    p.count_active(vl, size) as u16
 }
 
 // The counts in a number.
@@ -96,6 +107,7 @@ fn counts_in(x: u64) -> Counts
 }
 
 // Every second bit of two words, added in fields of two bits.
+#[tactic(auto, using(crate::proofs::Pairs::fields_is), unfolding(crate::proofs::Pairs::nibs))]
 fn fields_of(a: u64, b: u64) -> u64
     ensures { result ≡ fields 16 a b }
 {
@@ -110,6 +122,7 @@ fn low_fields(e: u64, f: u64) -> u64
 }
 
 // The low half of each byte.
+#[tactic(auto, using(crate::proofs::Sums::low_halves))]
 fn low(x: u64) -> u64
     ensures { result ≡ lows 8 x }
 {
@@ -124,6 +137,7 @@ fn byte_sum(x: u64) -> u64
 }
 
 // The sum of the bytes' low halves.
+#[tactic(auto, using(crate::proofs::Sums::sum_lows))]
 fn low_sum(x: u64) -> u64
     ensures { result ≡ low_sum 8 x }
 {
@@ -131,6 +145,7 @@ fn low_sum(x: u64) -> u64
 }
 
 // The sum of the bytes' halves.
+#[tactic(auto, using(crate::proofs::Sums::sum_halves, crate::proofs::Total::small_sums))]
 fn half_sum(x: u64) -> u64
     ensures { result ≡ low_sum 8 x + low_sum 8 (x / 16) }
 {
@@ -178,19 +193,19 @@ fn four_words(a: u64, b: u64, c: u64, d: u64) -> Planes
 pub fn planes_of(p: Predicate) -> Planes
     ensures { result ≡ planes_in false p }
 {
-    let w = p.words;
-    four_words(w[0], w[1], w[2], w[3])
+    let [a, b, c, d] = p.words;
+    four_words(a, b, c, d)
 }
 
-// The planes of its first word alone, which is enough where the others are zero.
+// The planes of its first word alone, which is enough where the others are zero. A function of its own, so that the zeros are known where it is compiled.
 pub fn first_planes(p: Predicate) -> Planes
     ensures { result ≡ planes_in true p }
 {
-    let w = p.words;
-    four_words(w[0], 0, 0, 0)
+    four_words(p.words[0], 0, 0, 0)
 }
 
 // The four counts as one number, from the planes. In two steps, so that each is small enough to be compiled in where it is called.
+#[tactic(auto, using(crate::proofs::Total::small_sums))]
 pub fn tally_in(x: Planes) -> u64
     ensures { result ≡ sums_of x }
 {

@@ -3,7 +3,6 @@ pub mod Runs
 pub mod Closed
 pub mod Standing
 pub mod Executed
-pub mod Outcomes
 pub mod Accepted
 pub mod Lanes
 pub mod Demands

@@ -3,13 +3,17 @@
 // budget instructions and the positions written by then. Positions are written from the list's first place on; every other place stays.
 #![tactic(auto)]
 
-ghost use Rattle.std.specs.Prelude.{◌≡◌, length, Ok, Err};
+ghost use Rattle.std.specs.Prelude.{◌≡◌, ◌<◌, ◌+◌, ◌^◌, ◌==◌, not, false, length, Ok, Err};
+ghost use Rattle.bits.specs.Search.{first_from, after_last};
+ghost use Rattle.bits.specs.Size.{shift};
+ghost use Rattle.predicates.specs.Predicate.{bit_at, touched};
 ghost use Rattle.bits.specs.Choice.{pick};
 ghost use Rattle.replies.specs.declared.Refusal.TheVariants.{BudgetSpent};
 ghost use Rattle.words.specs.Words.{size_of};
 ghost use Rattle.walk.specs.Walk.{plain_walk, walked, bad_registers, refusal_of, whole_of, walk_of};
 ghost use Rattle.walk.specs.Demand.{Demand3};
 
+use bits::Size;
 use predicates::{Flags, Predicate};
 use registers::State;
 use replies::{Refusal, Reply};
@@ -33,41 +37,41 @@ pub struct Walked {
     pub state: State,
 }
 
-fn bad_registers(size: u32, n: u32, m: u32, d: u32, k: u32) -> bool
-    ensures { result ≡ bad_registers size n m d k }
-{
-    if 31 < n {
-        return true;
+// What a walk is of: the element size by its number, Xn and Xm, the lanes Pd and the cursor Pk.
+#[derive(Clone, Copy)]
+pub struct Request {
+    pub size: u32,
+    pub n: u32,
+    pub m: u32,
+    pub d: u32,
+    pub k: u32,
+}
+
+impl Request {
+    #[tactic(auto, unfolding(crate::specs::Walk::bad_registers))]
+    fn is_bad(self) -> bool
+        ensures { result ≡ bad_registers self.size self.n self.m self.d self.k }
+    {
+        self.n > 31
+            || self.m > 31
+            || self.d > 15
+            || self.k > 15
+            || self.size > 3
+            || self.n == 31
+            || self.n == self.m
+            || self.d == self.k
     }
-    if 31 < m {
-        return true;
-    }
-    if 15 < d {
-        return true;
-    }
-    if 15 < k {
-        return true;
-    }
-    if 3 < size {
-        return true;
-    }
-    if n == 31 {
-        return true;
-    }
-    if n == m {
-        return true;
-    }
-    d == k
 }
 
 // The first refusal that applies, or none.
-pub fn refusal(state: State, size: u32, n: u32, m: u32, d: u32, k: u32, places: usize) -> Reply
-    ensures { result ≡ refusal_of size n m d k state places }
+#[tactic(auto, unfolding(crate::specs::Walk::refusal_of))]
+pub fn refusal(state: State, request: Request, places: usize) -> Reply
+    ensures { result ≡ refusal_of request.size request.n request.m request.d request.k state places }
 {
     if !state.is_legal() {
         return Err(Refusal::IllegalState);
     }
-    if bad_registers(size, n, m, d, k) {
+    if request.is_bad() {
         return Err(Refusal::BadWalkRegisters);
     }
     if state.level == 0 {
@@ -77,12 +81,9 @@ pub fn refusal(state: State, size: u32, n: u32, m: u32, d: u32, k: u32, places: 
         return Err(Refusal::AccessOff);
     }
     // X is read where it stands: `read_x` takes the state by value, and it would be copied.
-    let start = registers::parts::x_at(&state.x, n as u64);
-    let limit = registers::parts::x_at(&state.x, m as u64);
-    if limit <= start {
-        return Ok(());
-    }
-    if (places as u64) < limit - start {
+    let start = registers::parts::x_at(&state.x, u64::from(request.n));
+    let limit = registers::parts::x_at(&state.x, u64::from(request.m));
+    if (places as u64) < limit.saturating_sub(start) {
         return Err(Refusal::ListTooShort);
     }
     Ok(())
@@ -91,49 +92,83 @@ pub fn refusal(state: State, size: u32, n: u32, m: u32, d: u32, k: u32, places: 
 fn answer(ended: bool, count: u64, visited: usize, state: State) -> Walked
     ensures { result ≡ record { reply = pick ended (Ok tt) (Err BudgetSpent); count = count; visited = visited; state = state } }
 {
-    if ended {
-        return Walked {
-            reply: Ok(()),
-            count,
-            visited,
-            state,
-        };
-    }
     Walked {
-        reply: Err(Refusal::BudgetSpent),
+        reply: if ended {
+            Ok(())
+        } else {
+            Err(Refusal::BudgetSpent)
+        },
         count,
         visited,
         state,
     }
 }
 
+// What PNEXT needs of a round: the lowest bit of its lanes and the end of their bits, for the flags, and the element from which it searches.
+#[derive(Clone, Copy)]
+struct Round {
+    low: u64,
+    end: u64,
+    next: u64,
+}
+
+impl Round {
+    // Of lanes and a cursor below the vector's end.
+    fn of(lanes: Predicate, cursor: Predicate, size: Size) -> Round
+        ensures { result ≡ record { low = first_from (bit_at lanes) 0 256; end = after_last (bit_at lanes) 256; next = after_last (touched (shift size) cursor) 256 } }
+    {
+        Round {
+            low: lanes.lowest(),
+            end: lanes.after_highest(),
+            next: cursor.end_element(size),
+        }
+    }
+
+    // PNEXT's flags at a lane of this lowest bit.
+    fn flags_at(self, bit: u64) -> Flags
+        requires { bit + 1 < 2 ^ 64 }
+        ensures { result ≡ record { n = self.low == bit; z = false; c = not (self.end == bit + 1); v = false } }
+    {
+        Flags {
+            n: self.low == bit,
+            z: false,
+            c: self.end != bit + 1,
+            v: false,
+        }
+    }
+}
+
+// PNEXT's flags where it finds no lane.
+const NONE_LEFT: Flags = Flags {
+    n: false,
+    z: true,
+    c: true,
+    v: false,
+};
+
 // The walk past its refusals, one instruction a turn. What it writes (Xn, Pd, Pk and the flags) is held apart, and put in the state at the end.
-fn plain(
-    start: State,
-    size: u32,
-    n: u32,
-    m: u32,
-    d: u32,
-    k: u32,
-    list: &mut [u64],
-    budget: u64,
-) -> Walked
-    requires { refusal_of size n m d k start (length list.old) ≡ Ok tt }
-    ensures answer { result ≡ walked (plain_walk (size_of size) n m d k budget start list.old) }
-    ensures places { list.new ≡ (plain_walk (size_of size) n m d k budget start list.old).list }
+// One loop over the phases, which counts instructions by hand: it is the hot path, and its count is what the budget bounds and the answer carries.
+fn plain(start: State, request: Request, list: &mut [u64], budget: u64) -> Walked
+    requires { refusal_of request.size request.n request.m request.d request.k start (length list.old) ≡ Ok tt }
+    ensures answer { result ≡ walked (plain_walk (size_of request.size) request.n request.m request.d request.k budget start list.old) }
+    ensures places { list.new ≡ (plain_walk (size_of request.size) request.n request.m request.d request.k budget start list.old).list }
 {
-    let size = words::size_of(size);
+    let n = u64::from(request.n);
+    let d = u64::from(request.d);
+    let k = u64::from(request.k);
+    let size = words::size_of(request.size);
     let elements = predicates::elements(start.vl, size);
     let live = Predicate::live(start.vl, size);
-    let limit = start.read_x(m as u64);
-    let mut x = start.read_x(n as u64);
-    let mut lanes = start.read_p(d as u64);
-    let mut cursor = start.read_p(k as u64);
+    let limit = start.read_x(u64::from(request.m));
+    let mut x = start.read_x(n);
+    let mut lanes = start.read_p(d);
+    let mut cursor = start.read_p(k);
     let mut flags = start.flags;
-    // The lowest bit of a round's lanes and the end of their bits, for PNEXT's flags; and the element from which PNEXT searches.
-    let mut low: u64 = 0;
-    let mut end: u64 = 0;
-    let mut next: u64 = 0;
+    let mut round = Round {
+        low: 0,
+        end: 0,
+        next: 0,
+    };
     let mut phase = Phase::Pfalse;
     let mut ended = false;
     let mut visited: usize = 0;
@@ -149,67 +184,41 @@ fn plain(
                 lanes = Predicate::first(size, held);
                 flags = Flags::of(instructions::while_flags(true, held, elements));
                 ended = held == 0;
-                let mask = lanes.and(live);
-                low = mask.lowest();
-                end = mask.after_highest();
-                next = cursor.and(live).end_element(size);
+                round = Round::of(lanes.and(live), cursor.and(live), size);
                 phase = Phase::Pnext;
             }
             Phase::Pnext => {
-                let e = lanes.next_active(size, next, elements);
+                let e = lanes.next_active(size, round.next, elements);
                 if elements <= e {
                     cursor = Predicate::none();
-                    flags = Flags {
-                        n: false,
-                        z: true,
-                        c: true,
-                        v: false,
-                    };
+                    flags = NONE_LEFT;
                     phase = Phase::Incp;
                 } else {
-                    let b = e << size.shift();
                     cursor = Predicate::only_element(size, e);
-                    flags = Flags {
-                        n: low == b,
-                        z: false,
-                        c: end != b + 1,
-                        v: false,
-                    };
-                    list[visited] = std::num::wrapping_add_u64(x, e);
+                    flags = round.flags_at(e << size.shift());
+                    list[visited] = x.wrapping_add(e);
                     visited += 1;
-                    next = e + 1;
+                    round.next = e + 1;
                 }
             }
             Phase::Incp => {
-                x = std::num::wrapping_add_u64(x, lanes.and(live).count());
+                x = x.wrapping_add(lanes.and(live).count());
                 phase = Phase::Whilelo;
             }
         }
         count += 1;
     }
-    let state = start
-        .with_x(n as u64, x)
-        .with_p(d as u64, lanes)
-        .with_p(k as u64, cursor);
+    let state = start.with_x(n, x).with_p(d, lanes).with_p(k, cursor);
     answer(ended, count, visited, state.with_flags(flags))
 }
 
 // The walk from Xn to Xm with lanes Pd and cursor Pk: each position visited goes to the next place of `list`.
-pub fn walk(
-    state: State,
-    size: u32,
-    n: u32,
-    m: u32,
-    d: u32,
-    k: u32,
-    list: &mut [u64],
-    budget: u64,
-) -> Walked
-    ensures answer { result ≡ walk_of size n m d k budget state list.old }
-    ensures places { list.new ≡ (whole_of size n m d k budget state list.old).list }
-    ensures demand { refusal_of size n m d k state (length list.old) ≡ Ok tt → Demand3 (size_of size) n m d k budget state list.old list.new result }
+pub fn walk(state: State, request: Request, list: &mut [u64], budget: u64) -> Walked
+    ensures answer { result ≡ walk_of request.size request.n request.m request.d request.k budget state list.old }
+    ensures places { list.new ≡ (whole_of request.size request.n request.m request.d request.k budget state list.old).list }
+    ensures demand { refusal_of request.size request.n request.m request.d request.k state (length list.old) ≡ Ok tt → Demand3 (size_of request.size) request.n request.m request.d request.k budget state list.old list.new result }
 {
-    if let Err(refusal) = refusal(state, size, n, m, d, k, list.len()) {
+    if let Err(refusal) = refusal(state, request, list.len()) {
         return Walked {
             reply: Err(refusal),
             count: 0,
@@ -217,5 +226,5 @@ pub fn walk(
             state,
         };
     }
-    plain(state, size, n, m, d, k, list, budget)
+    plain(state, request, list, budget)
 }

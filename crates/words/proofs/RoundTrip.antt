@@ -19,7 +19,7 @@ use Rattle.words.specs.declared.Instruction.{Instruction}
 use Rattle.words.proofs.Codec.{both, and_pair, place-cut, cut_fits, matches-place, cut-place}
 use Rattle.words.proofs.Table.{finds, word_wide, well_formed_lem, reads-matches, one_layout}
 use Rattle.words.proofs.Fields.{build_fields, read_back, number_lt}
-use Rattle.words.proofs.Reading.{tested, hit, skip, none}
+use Rattle.words.proofs.Reading.{hit, skip, none}
 
 -- an instruction whose fields are within their ranges, written as a word, is read as itself
 pub read-written : (i : Instruction) → in_range i ≡ true → decode_of (word_of i) ≡ Ok i
@@ -36,9 +36,9 @@ abbrev pub Outcome : List Form → ℕ → Type 0
 Outcome fs w = ((n : ℕ) × (n < length fs) × (reads (get_or fs n pfalse_form) w ≡ true) × (read_by fs w ≡ Ok (instruction_in (get_or fs n pfalse_form) w))) ⊎ (read_by fs w ≡ Err (refusal w))
 
 outcome_more : (f : Form) (fs : List Form) (w : ℕ) (b : Bool) → reads f w ≡ b → Outcome fs w → Outcome (f ∷ fs) w
-outcome_more f fs w true h o = inl (0, omega arith, h, sym (hit f fs w (sym (tested f w)) h refl))
-outcome_more f fs w false h (inl (n, l, m, p)) = inl (suc n, omega arith, m, sym (skip f fs w (sym (tested f w)) h (sym p)))
-outcome_more f fs w false h (inr p) = inr (sym (skip f fs w (sym (tested f w)) h (sym p)))
+outcome_more f fs w true h o = inl (0, omega arith, h, sym (hit f fs w refl h refl))
+outcome_more f fs w false h (inl (n, l, m, p)) = inl (suc n, omega arith, m, sym (skip f fs w refl h (sym p)))
+outcome_more f fs w false h (inr p) = inr (sym (skip f fs w refl h (sym p)))
 
 pub outcome : (fs : List Form) (w : ℕ) → Outcome fs w
 outcome [] w = inr (sym (none w))

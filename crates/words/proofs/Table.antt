@@ -15,7 +15,7 @@ use Rattle.words.specs.Layout.Piece.{fixed, field}
 use Rattle.words.specs.Words.{flag, logic_has_word, Form, pfalse_form, forms, form_at, reads, instruction_in, has_opcode, read_by, decode_of}
 use Rattle.words.proofs.Codec.{both, and_pair, well_formed}
 use Rattle.words.proofs.Clash.{clash, apart}
-use Rattle.words.proofs.Reading.{tested, hit, skip}
+use Rattle.words.proofs.Reading.{hit, skip}
 
 abbrev pub every : (Form → Bool) → List Form → Bool
 every p [] = true
@@ -110,9 +110,9 @@ rest_pairwise g gs c = (both (every (λ (j : Form). clash g.layout j.layout 32) 
 
 finds_in : (fs : List Form) (n w : ℕ) → pairwise fs ≡ true → n < length fs → reads (get_or fs n pfalse_form) w ≡ true → Ok (instruction_in (get_or fs n pfalse_form) w) ≡ read_by fs w
 finds_in [] n w c l h = absurd (omega arith)
-finds_in (g ∷ gs) zero w c l h = hit g gs w (sym (tested g w)) h refl
+finds_in (g ∷ gs) zero w c l h = hit g gs w refl h refl
 finds_in (g ∷ gs) (suc n) w c l h =
-    skip g gs w (sym (tested g w))
+    skip g gs w refl
     (not_both (reads g w) (λ k. first_apart g gs n w c (omega arith) (reads-matches g w k) (reads-matches (get_or gs n pfalse_form) w h)))
     (finds_in gs n w (rest_pairwise g gs c) (omega arith) h)
 

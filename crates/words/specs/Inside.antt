@@ -1,31 +1,26 @@
--- For private functions alone: a word's tests as code groups them, and a layout as the code's table keeps it. No public contract cites these.
-use Rattle.std.specs.Prelude.{ℕ, Bool, ◌&&◌, List, [], ◌∷◌, eqb}
-use Rattle.words.specs.Layout.{Piece, span, slice, cut, place, from}
+-- For private functions alone: the mask of a layout's fixed bits, and a layout as the code's table keeps it. No public contract cites these.
+use Rattle.std.specs.Prelude.{ℕ, ◌+◌, ◌*◌, ◌-◌, ◌^◌, List, [], ◌∷◌}
+use Rattle.words.specs.Layout.{Piece, span, place}
 use Rattle.words.specs.Layout.Piece.{fixed, field}
-use Rattle.words.specs.Words.{Form}
 use Rattle.words.specs.declared.write.Places.{Places}
 
--- b, and all fixed bits of w are as the layout has them, grouped as code groups b & .. & ..
-abbrev pub matches_after : Bool → List Piece → ℕ → Bool
-matches_after b [] w = b
-matches_after b (fixed n v ∷ ps) w = matches_after (b && eqb (slice (span ps) n w) v) ps w
-matches_after b (field n ∷ ps) w = matches_after b ps w
+-- a word whose bits are set where a layout fixes them
+abbrev pub mask_of : List Piece → ℕ
+mask_of [] = 0
+mask_of (fixed n v ∷ ps) = (2 ^ n - 1) * 2 ^ span ps + mask_of ps
+mask_of (field n ∷ ps) = mask_of ps
 
--- w is a word of the form
-abbrev pub tests : Form → ℕ → Bool
-tests f w = matches_after (from f.allowed (cut f.layout w)) f.layout w
-
--- the lowest bit and the width of each field, from the highest down
-abbrev pub lows : List Piece → List ℕ
-lows [] = []
-lows (fixed n v ∷ ps) = lows ps
-lows (field n ∷ ps) = span ps ∷ lows ps
-
+-- the width of each field, from the highest down, and each field's lowest bit and width
 abbrev pub widths : List Piece → List ℕ
 widths [] = []
 widths (fixed n v ∷ ps) = widths ps
 widths (field n ∷ ps) = n ∷ widths ps
 
+abbrev pub fields_in : List Piece → List (ℕ × ℕ)
+fields_in [] = []
+fields_in (fixed n v ∷ ps) = fields_in ps
+fields_in (field n ∷ ps) = (span ps, n) ∷ fields_in ps
+
 -- what the table of the code has of a layout
 abbrev pub places_of : List Piece → Places
-places_of ps = record { fixed = place ps []; low = lows ps; width = widths ps }
+places_of ps = record { fixed = place ps []; fields = fields_in ps }

@@ -19,27 +19,27 @@ pub use row::row_of;
 pub use write::{encode, word_of};
 
 // What a WHILE writes: a predicate, the pair P(2 pd) and P(2 pd + 1), or the counter P(8 + pnd).
-#[derive(Clone, Copy)]
+#[derive(Clone, Copy, PartialEq, Eq, Debug)]
 pub enum Target {
     One { wide: bool, pd: u8 },
     Pair { pd: u8 },
     Counter { four: bool, pnd: u8 },
 }
 
-// What predicate logic makes of two bits; BIC and ORN invert the second.
-#[derive(Clone, Copy)]
+// What predicate logic makes of two bits, by the bits op, o2 and o3 as one number; BIC and ORN invert the second.
+#[derive(Clone, Copy, PartialEq, Eq, Debug)]
 pub enum Operation {
-    And,
-    Bic,
-    Eor,
-    Sel,
-    Orr,
-    Orn,
-    Nor,
-    Nand,
+    And = 0b000,
+    Bic = 0b001,
+    Eor = 0b010,
+    Sel = 0b011,
+    Orr = 0b100,
+    Orn = 0b101,
+    Nor = 0b110,
+    Nand = 0b111,
 }
 
-#[derive(Clone, Copy)]
+#[derive(Clone, Copy, PartialEq, Eq, Debug)]
 pub enum Instruction {
     While {
         condition: Condition,
@@ -136,22 +136,21 @@ pub fn level(i: Instruction) -> u8
             ..
         } => match target {
             Target::One { .. } => { if scalars::counts_up(condition) { 1 } else { 2 } }
-            Target::Pair { .. } => 3,
-            Target::Counter { .. } => 3,
+            Target::Pair { .. } | Target::Counter { .. } => 3,
         },
-        Instruction::Saturating { .. } => 1,
-        Instruction::IncDec { .. } => 1,
-        Instruction::Cntp { .. } => 1,
         Instruction::CntpCounter { .. } => 3,
-        Instruction::Pnext { .. } => 1,
-        Instruction::Pfirst { .. } => 1,
-        Instruction::Ptest { .. } => 1,
-        Instruction::Pfalse { .. } => 1,
-        Instruction::Logic { .. } => 1,
-        Instruction::Setffr => 1,
-        Instruction::Wrffr { .. } => 1,
-        Instruction::Rdffr { .. } => 1,
-        Instruction::RdffrPg { .. } => 1,
-        Instruction::RdffrsPg { .. } => 1,
+        Instruction::Saturating { .. }
+        | Instruction::IncDec { .. }
+        | Instruction::Cntp { .. }
+        | Instruction::Pnext { .. }
+        | Instruction::Pfirst { .. }
+        | Instruction::Ptest { .. }
+        | Instruction::Pfalse { .. }
+        | Instruction::Logic { .. }
+        | Instruction::Setffr
+        | Instruction::Wrffr { .. }
+        | Instruction::Rdffr { .. }
+        | Instruction::RdffrPg { .. }
+        | Instruction::RdffrsPg { .. } => 1,
     }
 }

@@ -1,4 +1,4 @@
-// Instructions as rows of nine numbers: the form's, the fields from the highest bit down, zeros.
+// Instructions as rows of nine numbers, as C is given them: the form's, the fields from the highest bit down, zeros.
 ghost use Rattle.std.specs.Prelude.{◌≡◌};
 ghost use Rattle.bits.specs.Choice.{digit};
 ghost use Rattle.bits.specs.Size.{shift};
@@ -10,56 +10,19 @@ use super::{Instruction, Operation, Target};
 use bits::Size;
 use scalars::Condition;
 
-fn bit_of(b: bool) -> u8
-    ensures { result ≡ digit b }
-{
-    if b { 1 } else { 0 }
-}
-
-fn lt_bit(c: Condition) -> u8
-    ensures { result ≡ digit (upward c) }
-{
-    bit_of(scalars::counts_up(c))
-}
-
 fn eq_bit(c: Condition) -> u8
     ensures { result ≡ digit (eq_bit c) }
 {
-    match c {
-        Condition::Less => 0,
-        Condition::LessEqual => 1,
-        Condition::GreaterEqual => 0,
-        Condition::Greater => 1,
-    }
+    u8::from(matches!(c, Condition::LessEqual | Condition::Greater))
 }
 
 fn size_number(size: Size) -> u8
     ensures { result ≡ shift size }
 {
-    match size {
-        Size::B => 0,
-        Size::H => 1,
-        Size::S => 2,
-        Size::D => 3,
-    }
+    size.shift() as u8
 }
 
-// The bits op, o2 and o3 as one number.
-fn operation_number(o: Operation) -> u8
-    ensures { result ≡ operation_number o }
-{
-    match o {
-        Operation::And => 0b000,
-        Operation::Bic => 0b001,
-        Operation::Eor => 0b010,
-        Operation::Sel => 0b011,
-        Operation::Orr => 0b100,
-        Operation::Orn => 0b101,
-        Operation::Nor => 0b110,
-        Operation::Nand => 0b111,
-    }
-}
-
+// A variant is no type, so the rows of the longest three are made from their fields.
 fn while_row(
     condition: Condition,
     unsigned: bool,
@@ -71,13 +34,13 @@ fn while_row(
     ensures { result ≡ row_of (Instruction.While condition unsigned target size rn rm) }
 {
     let s = size_number(size);
-    let u = bit_of(unsigned);
-    let lt = lt_bit(condition);
+    let u = u8::from(unsigned);
+    let lt = u8::from(scalars::counts_up(condition));
     let eq = eq_bit(condition);
     match target {
-        Target::One { wide, pd } => [0, s, rm, bit_of(wide), u, lt, rn, eq, pd],
+        Target::One { wide, pd } => [0, s, rm, u8::from(wide), u, lt, rn, eq, pd],
         Target::Pair { pd } => [1, s, rm, u, lt, rn, pd, eq, 0],
-        Target::Counter { four, pnd } => [2, s, rm, bit_of(four), u, lt, rn, eq, pnd],
+        Target::Counter { four, pnd } => [2, s, rm, u8::from(four), u, lt, rn, eq, pnd],
     }
 }
 
@@ -92,16 +55,17 @@ fn saturating_row(
     ensures { result ≡ row_of (Instruction.Saturating decrement unsigned wide size pm rdn) }
 {
     let s = size_number(size);
-    let d = bit_of(decrement);
-    let u = bit_of(unsigned);
-    [3, s, d, u, bit_of(wide), pm, rdn, 0, 0]
+    let d = u8::from(decrement);
+    let u = u8::from(unsigned);
+    [3, s, d, u, u8::from(wide), pm, rdn, 0, 0]
 }
 
 fn logic_row(operation: Operation, flags: bool, pm: u8, pg: u8, pn: u8, pd: u8) -> [u8; 9]
     ensures { result ≡ row_of (Instruction.Logic operation flags pm pg pn pd) }
 {
-    let n = operation_number(operation);
-    let s = bit_of(flags);
+    // The bits op, o2 and o3 as one number.
+    let n = operation as u8;
+    let s = u8::from(flags);
     [11, n / 4 % 2, s, pm, pg, n / 2 % 2, pn, n % 2, pd]
 }
 
@@ -131,14 +95,24 @@ pub fn row_of(i: Instruction) -> [u8; 9]
             size,
             pm,
             rdn,
-        } => [4, size_number(size), bit_of(decrement), pm, rdn, 0, 0, 0, 0],
+        } => [
+            4,
+            size_number(size),
+            u8::from(decrement),
+            pm,
+            rdn,
+            0,
+            0,
+            0,
+            0,
+        ],
         Instruction::Cntp { size, pg, pn, rd } => [5, size_number(size), pg, pn, rd, 0, 0, 0, 0],
         Instruction::CntpCounter {
             four,
             size,
             pnn,
             rd,
-        } => [6, size_number(size), bit_of(four), pnn, rd, 0, 0, 0, 0],
+        } => [6, size_number(size), u8::from(four), pnn, rd, 0, 0, 0, 0],
         Instruction::Pnext { size, pv, pdn } => [7, size_number(size), pv, pdn, 0, 0, 0, 0, 0],
         Instruction::Pfirst { pg, pdn } => [8, pg, pdn, 0, 0, 0, 0, 0, 0],
         Instruction::Ptest { pg, pn } => [9, pg, pn, 0, 0, 0, 0, 0, 0],

@@ -4,4 +4,4 @@ use Rattle.bits.proofs.Counts.{leading_last}
 use Rattle.bits.proofs.bit_length.Goals as goal
 
 pub returns : goal.returns
-returns c = leading_last 64 c.args.word (search rules)
+returns c = rw c.from.ensures (leading_last 64 c.args.word (search rules))

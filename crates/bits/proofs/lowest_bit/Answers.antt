@@ -3,4 +3,4 @@ use Rattle.bits.proofs.Counts.{trailing_first}
 use Rattle.bits.proofs.lowest_bit.Goals as goal
 
 pub returns : goal.returns
-returns c = trailing_first 64 c.args.word
+returns c = rw c.from.ensures (trailing_first 64 c.args.word)

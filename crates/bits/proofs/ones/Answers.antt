@@ -4,4 +4,4 @@ use Rattle.bits.proofs.Counts.{ones-count}
 use Rattle.bits.proofs.ones.Goals as goal
 
 pub returns : goal.returns
-returns c = ones-count 64 c.args.word (search rules)
+returns c = rw c.from.ensures (ones-count 64 c.args.word (search rules))

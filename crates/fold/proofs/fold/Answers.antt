@@ -1,29 +1,16 @@
 -- `fold` meets its contract. Assumes nothing.
-use borrow.Author.Rules.{rules}
+use native.Mathlib.Omega.{arith}
 use Rattle.fold.proofs.Answers.{short_list, long_list}
 use Rattle.fold.proofs.fold.Goals as goal
 
-pub returns-then-title-le64-clause-answer : goal.returns-then-title-le64-clause-answer
-returns-then-title-le64-clause-answer c =
-    let a = c.args in
-    (short_list a.vl 64 a.title.now _ _ (search rules) (search rules) c.fold_in-walked.ensures.answer c.fold_in-walked.ensures.units).0
+pub returns-then-title-le-SHORT : goal.returns-then-title-le-SHORT
+returns-then-title-le-SHORT c =
+    let f = c.fold_listed.ensures in
+    let (answer, (units, table)) = short_list c.args.vl 64 c.args.title.now _ _ (omega arith) c.if-title-le-SHORT.true f.answer f.units in
+    record { answer = answer; units = units; table = table }
 
-pub returns-then-title-le64-clause-units : goal.returns-then-title-le64-clause-units
-returns-then-title-le64-clause-units c =
-    let a = c.args in
-    (short_list a.vl 64 a.title.now _ _ (search rules) (search rules) c.fold_in-walked.ensures.answer c.fold_in-walked.ensures.units).1.0
-
-pub returns-then-title-le64-clause-table : goal.returns-then-title-le64-clause-table
-returns-then-title-le64-clause-table c =
-    let a = c.args in
-    (short_list a.vl 64 a.title.now _ _ (search rules) (search rules) c.fold_in-walked.ensures.answer c.fold_in-walked.ensures.units).1.1
-
-pub returns-clause-answer : goal.returns-clause-answer
-returns-clause-answer c =
-    let a = c.args in
-    (long_list a.vl a.title.now _ _ c.fold_in-walked-2.ensures.answer c.fold_in-walked-2.ensures.units).0
-
-pub returns-clause-table : goal.returns-clause-table
-returns-clause-table c =
-    let a = c.args in
-    (long_list a.vl a.title.now _ _ c.fold_in-walked-2.ensures.answer c.fold_in-walked-2.ensures.units).1.1
+pub returns-else-title-le-SHORT : goal.returns-else-title-le-SHORT
+returns-else-title-le-SHORT c =
+    let f = c.fold_listed-else-title-le-SHORT.ensures in
+    let (answer, (units, table)) = long_list c.args.vl c.args.title.now _ _ f.answer f.units in
+    record { answer = answer; units = units; table = table }

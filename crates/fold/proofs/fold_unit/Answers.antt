@@ -1,4 +1,5 @@
 -- `fold_unit` meets its contract. Assumes nothing.
+use Prim.Native.Nat.{◌≤◌}
 use native.Mathlib.Omega.{arith}
 use borrow.Author.Rules.{rules}
 use Rattle.bits.specs.Search.{some}
@@ -6,19 +7,22 @@ use Rattle.fold.specs.Table.{fold_unit}
 use Rattle.fold.proofs.Units.{below_a, capital, above_z, past_latin, lettered}
 use Rattle.fold.proofs.fold_unit.Goals as goal
 
-pub returns-then-u-lt65 : goal.returns-then-u-lt65
-returns-then-u-lt65 c = below_a c.args.u (omega arith)
-
-pub returns-then-u-le90 : goal.returns-then-u-le90
-returns-then-u-le90 c = capital c.args.u (omega arith) (omega arith)
-
-pub returns-then-u-lt192 : goal.returns-then-u-lt192
-returns-then-u-lt192 c = above_z c.args.u (omega arith) (omega arith)
-
-pub returns-then-u-gt255 : goal.returns-then-u-gt255
-returns-then-u-gt255 c = past_latin c.args.u (omega arith)
+pub returns-in-65-to-90 : goal.returns-in-65-to-90
+returns-in-65-to-90 c = capital c.args.u (omega arith) (omega arith)
 
 -- the array is tested here, place by place
-pub returns : goal.returns
+pub returns-in-192-to-255 : goal.returns-in-192-to-255
 unfolding some fold_unit
-returns c = search (lettered, rules) depth 6
+returns-in-192-to-255 c =
+    let low : 192 ≤ c.args.u = omega arith in
+    let high : c.args.u ≤ 255 = omega arith in
+    search (lettered, rules) depth 6
+
+pub returns-in_default : goal.returns-in_default
+returns-in_default c = below_a c.args.u (omega arith)
+
+pub returns-in_default-2 : goal.returns-in_default-2
+returns-in_default-2 c = above_z c.args.u (omega arith) (omega arith)
+
+pub returns-in_default-3 : goal.returns-in_default-3
+returns-in_default-3 c = past_latin c.args.u (omega arith)

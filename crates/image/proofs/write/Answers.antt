@@ -7,7 +7,7 @@ use Rattle.replies.specs.declared.Refusal.TheVariants as R
 use Rattle.registers.specs.Legal.{legal}
 use Rattle.registers.proofs.Registers.{Sized, length_mapped}
 use Rattle.image.specs.Image.{image_of}
-use Rattle.image.proofs.Writings.{legal-vl, image_length_lem, lawful, reply_illegal, reply_many, reply_small, answer-refused, answer_done}
+use Rattle.image.proofs.Writings.{legal-vl, image_length_lem, lawful, reply_small, answer-refused, answer_done}
 use borrow.Author.Rules.{rules}
 use Rattle.image.proofs.write.Goals as goal
 use Rattle.image.proofs.write.Goals.{After-image_length-length, Else-not-is_legal, Start}
@@ -20,18 +20,6 @@ is_lawful c = lawful _ _ c.is_legal.ensures (ap not c.if-not-is_legal.false)
 
 long : (c : After-image_length-length) (s : Sized c.args.state) → c.image_length-length.result ≡ length (image_of c.args.state c.args.words.now)
 long c s = c.image_length-length.ensures ∙ sym (image_length_lem c.args.state s c.args.words.now)
-
-pub returns-then-not-is_legal : goal.returns-then-not-is_legal
-returns-then-not-is_legal c =
-    let a = c.args in
-    let r = answer-refused a.state a.words.now a.image.now R.IllegalState (reply_illegal _ _ _ _ c.is_legal.ensures (ap not c.if-not-is_legal.true)) in
-    record { value = r.0; image_after = r.1 }
-
-pub returns-then-words-gt4096 : goal.returns-then-words-gt4096
-returns-then-words-gt4096 c =
-    let a = c.args in
-    let r = answer-refused a.state a.words.now a.image.now R.NotAllowed (reply_many _ _ _ (is_lawful (goal.at.returns-then-words-gt4096 c).Else-not-is_legal) (omega (arith, c.if-words-gt4096.true))) in
-    record { value = r.0; image_after = r.1 }
 
 pub image_length-length-requires : goal.image_length-length-requires
 image_length-length-requires c = (legal-vl _ (is_lawful (goal.at.image_length-length-requires c).Else-not-is_legal), omega arith)

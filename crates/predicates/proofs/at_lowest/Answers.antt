@@ -1,38 +1,26 @@
--- `at_lowest` meets its contract: the lowest bit lies in the lowest word that is not 0. Assumes nothing.
+-- `at_lowest` meets its contract: where the mask has no bit, it reads the result past its last bit, as false. Assumes nothing.
+use mathlib.Core.Bool.{Bool, ◌&&◌}
+use mathlib.Core.Path.{◌≡◌, sym, ap, ◌∙◌}
+use native.Mathlib.Decide.{dec_lt}
 use native.Mathlib.Omega.{arith}
 use borrow.Author.Rules.{rules}
-use Rattle.predicates.proofs.WordSearch.{lowest_test, lowest-none, below-zero, below_suc}
-use Rattle.predicates.proofs.Words.{words_of}
+use borrow.Author.Tests.{lt-ltb, le-ltb}
+use Rattle.predicates.specs.declared.Predicate.{Predicate}
+use Rattle.predicates.specs.PredTest.{at_lowest}
+use Rattle.predicates.specs.Predicate.{bit_at}
+use Rattle.predicates.specs.Words.{Words}
+use Rattle.predicates.proofs.Words.{words_of, bit_past}
 use Rattle.predicates.proofs.at_lowest.Goals as goal
+use Rattle.bits.specs.Search.{first_from}
 
-pub returns-then-m-ne0 : goal.returns-then-m-ne0
-returns-then-m-ne0 c =
-    let m = c.args.mask in
-    lowest_test m _ (search (rules, words_of)) 0 (omega arith) (below-zero m) c.if-m-ne0.true _ _ c.lowest_bit.ensures c.bit_of.ensures
-
-pub returns-then-m-ne0-2 : goal.returns-then-m-ne0-2
-returns-then-m-ne0-2 c =
-    let m = c.args.mask in
-    lowest_test m _ (search (rules, words_of)) 1 (omega arith) (below_suc m 0 (below-zero m) c.if-m-ne0.false)
-    c.if-m-ne0-2.true _ _ c.lowest_bit-then-m-ne0-2.ensures c.bit_of-then-m-ne0-2.ensures
-
-pub returns-then-m-ne0-3 : goal.returns-then-m-ne0-3
-returns-then-m-ne0-3 c =
-    let m = c.args.mask in
-    lowest_test m _ (search (rules, words_of)) 2 (omega arith)
-    (below_suc m 1 (below_suc m 0 (below-zero m) c.if-m-ne0.false) c.if-m-ne0-2.false)
-    c.if-m-ne0-3.true _ _ c.lowest_bit-then-m-ne0-3.ensures c.bit_of-then-m-ne0-3.ensures
-
-pub returns-then-m-ne0-4 : goal.returns-then-m-ne0-4
-returns-then-m-ne0-4 c =
-    let m = c.args.mask in
-    lowest_test m _ (search (rules, words_of)) 3 (omega arith)
-    (below_suc m 2 (below_suc m 1 (below_suc m 0 (below-zero m) c.if-m-ne0.false) c.if-m-ne0-2.false)
-    c.if-m-ne0-3.false)
-    c.if-m-ne0-4.true _ _ c.lowest_bit-then-m-ne0-4.ensures c.bit_of-then-m-ne0-4.ensures
+low_bit : (m r : Predicate) → Words r → bit_at r (first_from (bit_at m) 0 256) ≡ at_lowest (bit_at m) (bit_at r) 256
+unfolding at_lowest
+low_bit m r ok =
+    let b = first_from (bit_at m) 0 256 in
+    elim (dec_lt b 256) [
+      | yes l ↦ sym (ap (λ (t : Bool). t && bit_at r b) (lt-ltb b 256 l))
+      | no l ↦ bit_past r ok b (omega arith) ∙ sym (ap (λ (t : Bool). t && bit_at r b) (le-ltb b 256 (omega arith)))
+    ]
 
 pub returns : goal.returns
-returns c =
-    let m = c.args.mask in
-    lowest-none m _ (below_suc m 3 (below_suc m 2 (below_suc m 1 (below_suc m 0 (below-zero m) c.if-m-ne0.false) c.if-m-ne0-2.false)
-    c.if-m-ne0-3.false) c.if-m-ne0-4.false)
+returns c = c.bit.ensures ∙ ap (bit_at c.args.res) c.lowest.ensures ∙ low_bit c.args.mask c.args.res (search (rules, words_of))

@@ -1,10 +1,8 @@
 -- `bit` meets its contract. Assumes nothing.
-use Rattle.report.proofs.Digits.{bit-set, bit_clear}
-use borrow.Author.Rules.{rules}
+use mathlib.Core.Path.{ap, ◌∙◌}
+use Prim.Native.Nat.{ℕ, ◌+◌}
+use Rattle.report.proofs.Digits.{bit_symbol}
 use Rattle.report.proofs.bit.Goals as goal
 
-pub returns-then-b : goal.returns-then-b
-returns-then-b c = search (rules, bit-set)
-
-pub returns-else-b : goal.returns-else-b
-returns-else-b c = search (rules, bit_clear)
+pub returns : goal.returns
+returns c = ap (λ (n : ℕ). 48 + n) c.from.ensures ∙ bit_symbol c.args.b

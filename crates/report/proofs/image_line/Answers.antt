@@ -1,23 +1,27 @@
 -- `image_line` meets its contract: the text and the number are the line. Assumes nothing.
-use mathlib.Core.List.{[], ◌∷◌}
+use mathlib.Core.List.{List, [], ◌∷◌}
+use Prim.Native.Nat.{ℕ}
 use native.Mathlib.Omega.{arith}
 use Rattle.report.specs.Lines.{image_line}
 use Rattle.report.proofs.Places.{line_refused, line_done, text-length, text_put}
 use Rattle.report.proofs.image_line.Goals as goal
 
-pub returns-then-left-a-clause-value : goal.returns-then-left-a-clause-value
-unfolding image_line
-returns-then-left-a-clause-value c = (line_refused _ _ c.args.buffer.now _ _ (text-length (105 ∷ 109 ∷ 97 ∷ 103 ∷ 101 ∷ 32 ∷ []) _ _ c.width-a.ensures.0) c.left.ensures c.if-left-a.true).0
+abbrev text : List ℕ
+text = 105 ∷ 109 ∷ 97 ∷ 103 ∷ 101 ∷ 32 ∷ []
 
-pub returns-then-left-a-clause-buffer_after : goal.returns-then-left-a-clause-buffer_after
+pub returns-then-saturating_sub-a : goal.returns-then-saturating_sub-a
 unfolding image_line
-returns-then-left-a-clause-buffer_after c = (line_refused _ c.args.at c.args.buffer.now _ _ (text-length (105 ∷ 109 ∷ 97 ∷ 103 ∷ 101 ∷ 32 ∷ []) _ _ c.width-a.ensures.0) c.left.ensures c.if-left-a.true).1
+returns-then-saturating_sub-a c =
+    let x = rw c.from-short.ensures at c.width-a.ensures.0 in
+    let l = line_refused _ c.args.at c.args.buffer.now _ _ (text-length text _ _ x) c.saturating_sub.ensures c.if-saturating_sub-a.true in
+    record { value = l.0; buffer_after = l.1 }
 
 pub returns : goal.returns
 unfolding image_line
 returns c =
     let a = c.args in
-    let x = c.width-a.ensures.0 in
-    let l = line_done _ _ a.buffer.now _ _ (text-length (105 ∷ 109 ∷ 97 ∷ 103 ∷ 101 ∷ 32 ∷ []) _ _ x) c.left.ensures _ _ (omega arith) c.if-left-a.false (omega arith)
-    (text_put (105 ∷ 109 ∷ 97 ∷ 103 ∷ 101 ∷ 32 ∷ []) _ _ x a.buffer.now _ _ a.at c.put_text.ensures c.put_field.ensures) in
+    let x = rw c.from-short.ensures at c.width-a.ensures.0 in
+    let b = rw c.from-short.ensures at c.put_field.ensures.buffer_after in
+    let l = line_done _ _ a.buffer.now _ _ (text-length text _ _ x) c.saturating_sub.ensures _ _ (omega arith) c.if-saturating_sub-a.false (omega arith)
+    (text_put text _ _ x a.buffer.now _ _ a.at _ c.put_text-at.ensures.buffer_after c.put_text-at.ensures.value b) in
     record { value = l.0; buffer_after = l.1 }

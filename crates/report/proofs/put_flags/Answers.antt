@@ -1,7 +1,7 @@
 -- `put_flags` meets its contract. Assumes nothing.
-use Rattle.report.proofs.Digits.{flags_put}
-use borrow.Author.Rules.{rules}
+use Rattle.report.specs.Lines.{flag_digits}
 use Rattle.report.proofs.put_flags.Goals as goal
 
 pub returns : goal.returns
-returns c = search (rules, flags_put)
+unfolding flag_digits
+returns c = record { value = c.put_text.ensures.value; buffer_after = cc c.put_text.ensures.buffer_after }

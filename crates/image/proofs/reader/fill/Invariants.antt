@@ -1,14 +1,10 @@
 -- `fill` meets its contract: what is left to read is stored over what was. Assumes nothing.
 use mathlib.Core.Path.{◌≡◌}
-use Prim.Native.Nat.{◌*◌, ◌-◌, ◌≤◌}
+use Prim.Native.Nat.{◌*◌, ◌-◌}
 use lib.ListN.{length, drop}
 use lib.Seq.{sets}
 use Rattle.octets.specs.Bytes.{value, parts}
 use Rattle.image.proofs.reader.fill.Given as goal
 
 abbrev pub invariant-loop-i : goal.invariant-loop-i
-invariant-loop-i l =
-    (l.i ≤ l.n) × ((length l.list ≡ length l.initial.list) × (sets l.list l.i (parts value 4 (l.n - l.i) (drop (l.i * 4) l.content)) ≡ sets l.initial.list 0 (parts value 4 l.n l.content)))
-
-abbrev pub decreases-loop-i : goal.decreases-loop-i
-decreases-loop-i l = l.n - l.i
+invariant-loop-i l = sets l.list l.i (parts value 4 (length l.list - l.i) (drop (l.i * 4) l.content)) ≡ parts value 4 (length l.list) l.content

@@ -1,13 +1,8 @@
--- `is_allowed` meets its contract. Assumes nothing.
-use Rattle.image.proofs.SectionLaws.{setting-byte, flag-byte, any_byte_lem}
-use borrow.Author.Rules.{rules}
+-- `is_allowed` meets its contract: past the last section an empty one, in which any byte is allowed. Assumes nothing.
+use mathlib.Core.Path.{sym, ap}
+use Rattle.image.specs.Sections.{Section}
+use Rattle.image.proofs.SectionLaws.{past_last}
 use Rattle.image.proofs.sections.is_allowed.Goals as goal
 
-pub returns-then-section-eq-SETTINGS : goal.returns-then-section-eq-SETTINGS
-returns-then-section-eq-SETTINGS c = search (rules, setting-byte)
-
-pub returns-then-section-eq-FLAGS : goal.returns-then-section-eq-FLAGS
-returns-then-section-eq-FLAGS c = search (rules, flag-byte)
-
-pub returns : goal.returns
-returns c = search (rules, any_byte_lem)
+pub returns-in-None : goal.returns-in-None
+returns-in-None c = sym (ap (λ (s : Section). s.allowed c.args.place c.args.b) (past_last c.args.vl c.args.section c.in-None.ensures.lookup.0))

@@ -1,6 +1,5 @@
 -- `start_of` meets its contract: the sections that were passed end where the next begins. Assumes nothing.
 use mathlib.Core.Path.{refl}
-use native.Mathlib.Omega.{arith}
 use borrow.Author.Rules.{rules}
 use Rattle.image.specs.Sections.{start_of}
 use Rattle.image.proofs.SectionLaws.{start_turn}
@@ -8,7 +7,7 @@ use Rattle.image.proofs.sections.start_of.Goals as goal
 
 pub loop-i-init : goal.loop-i-init
 unfolding start_of
-loop-i-init c = (omega arith, refl)
+loop-i-init c = refl
 
 pub loop-i-preserved : goal.loop-i-preserved
-loop-i-preserved c = (omega arith, search (rules, start_turn))
+loop-i-preserved c = search (rules, start_turn)

@@ -1,28 +1,34 @@
--- `image_length` meets its contract: the length is that of the sections that were passed, from the last one down. Assumes nothing.
-use Prim.Native.Nat.{◌*◌, ◌≤◌}
+-- `image_length` meets its contract: the length and the sections that are left make the image. Assumes nothing.
 use native.Mathlib.Omega.{arith}
-use Rattle.image.proofs.Writings.{length_start, length-turn, length_end, least_most}
-use borrow.Author.Rules.{rules}
+use Rattle.image.proofs.SectionLaws.{place_at}
+use Rattle.image.proofs.Writings.{length_start, length_left, length-most, length_end}
 use Rattle.image.proofs.writer.image_length.Goals as goal
-use Rattle.image.proofs.writer.image_length.Goals.{After-shape_of-shape}
 
-most : (c : After-shape_of-shape) → c.shape_of-shape.result.lowest * c.shape_of-shape.result.item ≤ 992
-most c = least_most _ _ _ (omega arith) c.shape_of-shape.ensures
+pub loop-section-init : goal.loop-section-init
+loop-section-init c = length_start _ _
 
-pub loop-i-init : goal.loop-i-init
-loop-i-init c = (omega arith, (omega arith, length_start _ _))
-
-pub overflow_mul-length-in-loop-i : goal.overflow_mul-length-in-loop-i
-overflow_mul-length-in-loop-i c = omega (arith, most (goal.at.overflow_mul-length-in-loop-i c).After-shape_of-shape)
+pub overflow_mul-length-in-loop-section : goal.overflow_mul-length-in-loop-section
+overflow_mul-length-in-loop-section c =
+    let l = length_left _ _ _ _ c.loop-section-test.true (place_at _ _ c.loop-section-test.true) c.shape-shape.ensures in
+    let m = length-most c.args.vl c.args.words c.requires.0 c.requires.1 in
+    omega (arith, c.loop-section.invariant)
 
 pub overflow_add-length : goal.overflow_add-length
-overflow_add-length c = omega (arith, most (goal.at.overflow_add-length c).After-shape_of-shape)
+overflow_add-length c =
+    let l = length_left _ _ _ _ c.loop-section-test.true (place_at _ _ c.loop-section-test.true) c.shape-shape.ensures in
+    let m = length-most c.args.vl c.args.words c.requires.0 c.requires.1 in
+    omega (arith, c.loop-section.invariant)
 
-pub overflow_add-length-in-loop-i : goal.overflow_add-length-in-loop-i
-overflow_add-length-in-loop-i c = omega (arith, most (goal.at.overflow_add-length-in-loop-i c).After-shape_of-shape)
+pub overflow_add-length-in-loop-section : goal.overflow_add-length-in-loop-section
+overflow_add-length-in-loop-section c =
+    let l = length_left _ _ _ _ c.loop-section-test.true (place_at _ _ c.loop-section-test.true) c.shape-shape.ensures in
+    let m = length-most c.args.vl c.args.words c.requires.0 c.requires.1 in
+    omega (arith, c.loop-section.invariant)
 
-pub loop-i-preserved : goal.loop-i-preserved
-loop-i-preserved c = (omega arith, (omega (arith, most (goal.at.loop-i-preserved c).After-shape_of-shape), search (rules, length-turn)))
+pub loop-section-preserved : goal.loop-section-preserved
+loop-section-preserved c =
+    let l = length_left _ _ _ _ c.loop-section-test.true (place_at _ _ c.loop-section-test.true) c.shape-shape.ensures in
+    omega (arith, c.loop-section.invariant)
 
 pub returns : goal.returns
-returns c = search (rules, length_end)
+returns c = length_end _ _ _ _ c.loop-section.invariant c.loop-section-test.false

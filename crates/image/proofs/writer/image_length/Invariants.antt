@@ -1,11 +1,9 @@
--- `image_length` meets its contract: the length is that of the sections that were passed, from the last one down. Assumes nothing.
+-- `image_length` meets its contract: the length and the sections that are left make the image. Assumes nothing.
 use mathlib.Core.Path.{◌≡◌}
-use Prim.Native.Nat.{◌+◌, ◌*◌, ◌≤◌}
-use Rattle.image.proofs.Writings.{length_left}
+use Prim.Native.Nat.{◌+◌}
+use lib.ListN.{drop}
+use Rattle.image.specs.Sections.{sections, bytes_of, image_length}
 use Rattle.image.proofs.writer.image_length.Given as goal
 
-abbrev pub invariant-loop-i : goal.invariant-loop-i
-invariant-loop-i l = (l.i ≤ 6) × ((l.length + l.i * 996 ≤ 22360) × (l.length ≡ length_left l.vl l.words l.i))
-
-abbrev pub decreases-loop-i : goal.decreases-loop-i
-decreases-loop-i l = l.i
+abbrev pub invariant-loop-section : goal.invariant-loop-section
+invariant-loop-section l = l.length + bytes_of (λ s. s.lowest) (drop l.section-index (sections l.vl)) ≡ image_length l.vl l.words

@@ -1,59 +1,70 @@
 -- `put_image` meets its contract: the sections are the image. Assumes nothing.
-use Prim.Native.Nat.{◌+◌, ◌*◌, ◌/◌, ◌≤◌}
+use mathlib.Core.Path.{◌≡◌, ap, ◌∙◌}
+use Prim.Native.Nat.{ℕ, ◌+◌, ◌-◌, ◌*◌, ◌/◌, ◌≤◌}
 use native.Mathlib.Omega.{arith}
 use lib.Dec.{lit≤}
-use lib.ListN.{length}
+use lib.ListN.{length, take, drop}
+use lib.Seq.{sets}
+use Rattle.octets.specs.Bytes.{le}
+use Rattle.octets.proofs.Bytes.{length-le}
 use Rattle.registers.proofs.Registers.{Sized, length_mapped}
-use Rattle.image.proofs.Writings.{legal-vl, image_bytes, three_items, four_items, sections_put}
+use Rattle.image.specs.Image.{predicate_bytes}
+use Rattle.image.proofs.PredicateBytes.{length_bytes}
+use Rattle.image.proofs.Writings.{legal-vl, image_bytes, low_count, last, three_items, four_items, past_section, sections_are}
 use borrow.Author.Rules.{rules}
 use Rattle.image.proofs.writer.put_image.Goals as goal
 use Rattle.image.proofs.writer.put_image.Goals.{Start}
 
-ok : (c : Start) → Sized c.args.state
-ok c = record { xs = search rules; ps = search (rules, length_mapped); cs = search (rules, length_mapped) }
+-- what each section is asked: the image has room for all
+record Room (c : Start) : Type 0 where
+  sized : Sized c.args.state
+  all : (4 + 3 * 1) + ((4 + 31 * 8) + ((4 + 16 * (c.args.state.vl / 64)) + ((4 + 1 * (c.args.state.vl / 64)) + ((4 + 4 * 1) + (4 + length c.args.words.now * 4))))) ≤ length c.args.image.now
+  x : length c.args.state.x ≡ 31
+  low : length (take 16 c.args.state.p) * (c.args.state.vl / 64) ≡ 16 * (c.args.state.vl / 64)
+  high : length (take (length c.args.state.p - 16) (drop 16 c.args.state.p)) * (c.args.state.vl / 64) ≡ 1 * (c.args.state.vl / 64)
+  size : c.args.state.vl ≤ 2048
 
--- the image has room for all sections
-room : (c : Start) → (4 + 3 * 1) + ((4 + 31 * 8) + ((4 + 16 * (c.args.state.vl / 64)) + ((4 + 1 * (c.args.state.vl / 64)) + ((4 + 4 * 1) + (4 + length c.args.words.now * 4))))) ≤ length c.args.image.now
-room c = let e = image_bytes c.args.state (ok c) c.args.words.now in omega (arith, c.requires.1.1)
+room : (c : Start) → Room c
+room c =
+    let s = c.args.state in
+    let ok : Sized s = record { xs = search rules; ps = search (rules, length_mapped); cs = search (rules, length_mapped) } in
+    let e = image_bytes s ok c.args.words.now in
+    record {
+      sized = ok;
+      all = omega (arith, c.requires.1.1);
+      x = ok.xs;
+      low = ap (λ (n : ℕ). n * (s.vl / 64)) (low_count s ok c.args.words.now);
+      high = ap (λ (l : _). length l * (s.vl / 64)) (last s ok c.args.words.now);
+      size = legal-vl s c.requires.0;
+    }
 
-pub put_numbers-x_at-requires : goal.put_numbers-x_at-requires
-put_numbers-x_at-requires c = let r = room (goal.at.put_numbers-x_at-requires c).Start in (lit≤ tt, omega arith)
+pub put_section-x_at-requires : goal.put_section-x_at-requires
+put_section-x_at-requires c = let r = room (goal.at.put_section-x_at-requires c).Start in (lit≤ tt, omega arith)
 
-pub put_numbers-p_at-requires : goal.put_numbers-p_at-requires
-put_numbers-p_at-requires c =
-    let r = room (goal.at.put_numbers-p_at-requires c).Start in
-    let x = (ok (goal.at.put_numbers-p_at-requires c).Start).xs in
-    (lit≤ tt, omega (arith, c.put_numbers-x_at.ensures.value))
+pub put_section-p_at-requires : goal.put_section-p_at-requires
+put_section-p_at-requires c = let r = room (goal.at.put_section-p_at-requires c).Start in (lit≤ tt, omega arith)
 
-pub put_predicates-ffr_at-requires : goal.put_predicates-ffr_at-requires
-put_predicates-ffr_at-requires c =
-    let r = room (goal.at.put_predicates-ffr_at-requires c).Start in
-    let n = (ok (goal.at.put_predicates-ffr_at-requires c).Start).xs in
-    let v = legal-vl _ c.requires.0 in
-    (omega arith, (lit≤ tt, omega (arith, c.put_numbers-p_at.ensures.value, c.put_numbers-x_at.ensures.value)))
+pub put_section-ffr_at-requires : goal.put_section-ffr_at-requires
+put_section-ffr_at-requires c = let r = room (goal.at.put_section-ffr_at-requires c).Start in (omega arith, omega arith)
 
-pub put_predicates-flags_at-requires : goal.put_predicates-flags_at-requires
-put_predicates-flags_at-requires c =
-    let r = room (goal.at.put_predicates-flags_at-requires c).Start in
-    let n = (ok (goal.at.put_predicates-flags_at-requires c).Start).xs in
-    let v = legal-vl _ c.requires.0 in
-    (omega arith, (lit≤ tt, omega (arith, c.put_predicates-ffr_at.ensures.value, c.put_numbers-p_at.ensures.value, c.put_numbers-x_at.ensures.value)))
+pub put_section-flags_at-requires : goal.put_section-flags_at-requires
+put_section-flags_at-requires c = let r = room (goal.at.put_section-flags_at-requires c).Start in (omega arith, omega arith)
 
-pub put_numbers-words_at-requires : goal.put_numbers-words_at-requires
-put_numbers-words_at-requires c =
-    let r = room (goal.at.put_numbers-words_at-requires c).Start in
-    let n = (ok (goal.at.put_numbers-words_at-requires c).Start).xs in
-    (lit≤ tt, omega (arith, c.put_predicates-flags_at.ensures.value, c.put_predicates-ffr_at.ensures.value, c.put_numbers-p_at.ensures.value, c.put_numbers-x_at.ensures.value))
+pub put_section-words_at-requires : goal.put_section-words_at-requires
+put_section-words_at-requires c = let r = room (goal.at.put_section-words_at-requires c).Start in (lit≤ tt, omega arith)
 
-pub put_words-requires : goal.put_words-requires
-put_words-requires c =
-    let r = room (goal.at.put_words-requires c).Start in
-    let n = (ok (goal.at.put_words-requires c).Start).xs in
-    (c.requires.1.0, omega (arith, c.put_numbers-words_at.ensures.value, c.put_predicates-flags_at.ensures.value, c.put_predicates-ffr_at.ensures.value, c.put_numbers-p_at.ensures.value, c.put_numbers-x_at.ensures.value))
+pub put_section-requires : goal.put_section-requires
+put_section-requires c = let r = room (goal.at.put_section-requires c).Start in (lit≤ tt, omega arith)
 
 pub returns : goal.returns
 returns c =
-    sections_put c.args.state (ok (goal.at.returns c).Start) c.args.words.now _ _ _ _ _ _ _ _ _ _ _ _ _ _ (three_items c.args.state _ c.bit.ensures)
-    (four_items c.args.state.flags _ _ _ _ c.bit-2.ensures c.bit-3.ensures c.bit-4.ensures c.bit-5.ensures) c.put_numbers-x_at.ensures.image_after c.put_numbers-x_at.ensures.value
-    c.put_numbers-p_at.ensures.image_after c.put_numbers-p_at.ensures.value c.put_predicates-ffr_at.ensures.image_after c.put_predicates-ffr_at.ensures.value c.put_predicates-flags_at.ensures.image_after c.put_predicates-flags_at.ensures.value c.put_numbers-words_at.ensures.image_after c.put_numbers-words_at.ensures.value
-    c.put_words.ensures
+    let a = c.args in
+    let r = room (goal.at.returns c).Start in
+    let k = a.state.vl / 64 in
+    c.put_section.ensures.image_after
+    ∙ past_section (le 1) 1 (length-le 1) _ _ _ _ _ _ c.put_section-words_at.ensures.image_after c.put_section-words_at.ensures.value
+    ∙ past_section (predicate_bytes k) k (length_bytes k) _ _ _ _ _ _ c.put_section-flags_at.ensures.image_after c.put_section-flags_at.ensures.value
+    ∙ past_section (predicate_bytes k) k (length_bytes k) _ _ _ _ _ _ c.put_section-ffr_at.ensures.image_after c.put_section-ffr_at.ensures.value
+    ∙ past_section (le 8) 8 (length-le 8) _ _ _ _ _ _ c.put_section-p_at.ensures.image_after c.put_section-p_at.ensures.value
+    ∙ past_section (le 1) 1 (length-le 1) _ _ _ _ _ _ c.put_section-x_at.ensures.image_after c.put_section-x_at.ensures.value
+    ∙ ap (sets a.image.now 0) (sections_are a.state r.sized a.words.now _ _ (three_items a.state _ _ c.from.ensures c.from-2.ensures) (four_items a.state.flags _ _ _ _ c.from-3.ensures c.from-4.ensures c.from-5.ensures c.from-6.ensures))

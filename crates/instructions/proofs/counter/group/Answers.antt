@@ -6,5 +6,5 @@ use Rattle.instructions.proofs.counter.group.Goals as goal
 pub overflow_mul-result : goal.overflow_mul-result
 overflow_mul-result c = omega (arith, c.elements-n.ensures, elements-le c.args.vl c.args.size)
 
-pub overflow_mul-result-2 : goal.overflow_mul-result-2
-overflow_mul-result-2 c = omega (arith, c.elements-n.ensures, elements-le c.args.vl c.args.size)
+pub overflow_mul-result-else-four : goal.overflow_mul-result-else-four
+overflow_mul-result-else-four c = omega (arith, c.elements-n.ensures, elements-le c.args.vl c.args.size)

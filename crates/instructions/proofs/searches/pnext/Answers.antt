@@ -26,7 +26,7 @@ unfolding pnext_of
 returns-then-n-e c =
     let a = c.args in
     let n = c.elements-n.ensures in
-    one_is _ _ _ _ _ c.gives_p.ensures
+    one_is _ _ _ _ _ c.flagged.ensures
     (c.none.ensures ∙ next-none a.size a.pv a.pdn a.vl _ _ (found (goal.at.returns-then-n-e c).After-next_active-e) n c.if-n-e.true)
     (c.nzcv.ensures ∙ ap nzcv (next-none_flags a.size a.pv a.pdn a.vl _ _ (found (goal.at.returns-then-n-e c).After-next_active-e) n c.if-n-e.true))
 
@@ -40,7 +40,7 @@ returns c =
     let at : (e * 2 ^ c.shift.result) % 2 ^ 64 ≡ e * 2 ^ shift a.size =
     ap (λ (x : ℕ). (e * 2 ^ x) % 2 ^ 64) c.shift.ensures ∙ shifted e (shift a.size) (omega (arith, n, elements-le a.vl a.size)) (shift-lt a.size) in
     let masked = c.and-2.ensures ∙ ap (λ (q : Predicate). pack (λ b. bit_at a.pv b && bit_at q b)) c.live-live.ensures in
-    one_is _ _ _ _ _ c.gives_p-2.ensures
+    one_is _ _ _ _ _ c.flagged-2.ensures
     (c.only_element.ensures ∙ next_found a.size a.pv a.pdn a.vl _ _ (found (goal.at.returns c).After-next_active-e) n (omega arith))
     (c.test_only-flags.ensures
     ∙ ap nzcv (next_found_flags a.size a.pv a.pdn a.vl _ _ (found (goal.at.returns c).After-next_active-e) n (omega arith) _ masked _ at))

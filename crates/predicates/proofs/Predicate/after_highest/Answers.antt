@@ -1,4 +1,5 @@
--- `Predicate::after_highest` meets its contract: the highest bit lies in the highest word that is not 0. Assumes nothing.
+-- `Predicate::after_highest` meets its contract: the words past the one looked at are 0. Assumes nothing.
+use Prim.Native.Nat.{◌-◌}
 use mathlib.Core.Logic.{inl, inr}
 use mathlib.Core.Path.{refl}
 use native.Mathlib.Omega.{arith}
@@ -6,42 +7,24 @@ use borrow.Author.Rules.{rules}
 use Rattle.bits.specs.Bits.{test_bit}
 use Rattle.bits.proofs.Searches.{last_le}
 use Rattle.predicates.specs.Words.{Words}
-use Rattle.predicates.proofs.WordSearch.{highest_in, last_in, above_three, above_pred}
+use Rattle.predicates.proofs.WordSearch.{from_four, from_pred, highest_in, last_in}
 use Rattle.predicates.proofs.Words.{words_of, word}
 use Rattle.predicates.proofs.Predicate.after_highest.Goals as goal
 
+pub loop-i-init : goal.loop-i-init
+loop-i-init c = from_four c.args.self (search (rules, words_of))
+
 pub overflow_add-result : goal.overflow_add-result
-overflow_add-result c = omega (arith, last_le (test_bit (word c.args.self 3)) 64)
+overflow_add-result c = omega (arith, last_le (test_bit (word c.args.self (c.loop-i.i - 1))) 64)
 
-pub returns-then-w-ne0 : goal.returns-then-w-ne0
-returns-then-w-ne0 c =
+pub returns-then-word-ne0 : goal.returns-then-word-ne0
+returns-then-word-ne0 c =
     let p = c.args.self in
     let ok : Words p = search (rules, words_of) in
-    highest_in p 3 _ (omega arith) (above_three p ok) (inl (last_in _ (ok.fit 3) c.if-w-ne0.true)) (omega arith)
+    highest_in p (c.loop-i.i - 1) _ (omega arith) (λ j h. c.loop-i.invariant j (omega arith)) (inl (last_in _ (ok.fit (c.loop-i.i - 1)) c.if-word-ne0.true)) (omega arith)
 
-pub overflow_add-result-then-w-ne0-2 : goal.overflow_add-result-then-w-ne0-2
-overflow_add-result-then-w-ne0-2 c = omega (arith, last_le (test_bit (word c.args.self 2)) 64)
-
-pub returns-then-w-ne0-2 : goal.returns-then-w-ne0-2
-returns-then-w-ne0-2 c =
-    let p = c.args.self in
-    let ok : Words p = search (rules, words_of) in
-    highest_in p 2 _ (omega arith) (above_pred p 2 (above_three p ok) c.if-w-ne0.false) (inl (last_in _ (ok.fit 2) c.if-w-ne0-2.true)) (omega arith)
-
-pub overflow_add-result-then-w-ne0-3 : goal.overflow_add-result-then-w-ne0-3
-overflow_add-result-then-w-ne0-3 c = omega (arith, last_le (test_bit (word c.args.self 1)) 64)
-
-pub returns-then-w-ne0-3 : goal.returns-then-w-ne0-3
-returns-then-w-ne0-3 c =
-    let p = c.args.self in
-    let ok : Words p = search (rules, words_of) in
-    highest_in p 1 _ (omega arith) (above_pred p 1 (above_pred p 2 (above_three p ok) c.if-w-ne0.false) c.if-w-ne0-2.false)
-    (inl (last_in _ (ok.fit 1) c.if-w-ne0-3.true)) (omega arith)
+pub loop-i-preserved : goal.loop-i-preserved
+loop-i-preserved c = from_pred c.args.self c.loop-i.i c.loop-i.invariant c.if-word-ne0.false
 
 pub returns : goal.returns
-returns c =
-    let p = c.args.self in
-    let ok : Words p = search (rules, words_of) in
-    highest_in p 0 _ (omega arith)
-    (above_pred p 0 (above_pred p 1 (above_pred p 2 (above_three p ok) c.if-w-ne0.false) c.if-w-ne0-2.false) c.if-w-ne0-3.false)
-    (inr refl) (omega arith)
+returns c = highest_in c.args.self 0 _ (omega arith) (λ j h. c.loop-i.invariant j (omega arith)) (inr refl) (omega arith)

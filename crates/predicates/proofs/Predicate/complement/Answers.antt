@@ -1,7 +1,6 @@
--- `Predicate::complement` meets its contract: XOR of a word with all ones is `not` of its bits. Assumes nothing.
+-- `Predicate::complement` meets its contract: the complement of a word is `not` of its bits. Assumes nothing.
 use mathlib.Core.Bool.{not}
-use Prim.Native.Nat.{ℕ}
-use lib.Bits.{bit_xor}
+use Prim.Native.Nat.{ℕ, ◌-◌, ◌^◌}
 use borrow.Author.Rules.{rules}
 use Rattle.bits.proofs.Bits.{number-not}
 use Rattle.predicates.proofs.Words.{words_of, pack-op}
@@ -9,5 +8,5 @@ use Rattle.predicates.proofs.Predicate.complement.Goals as goal
 
 pub returns : goal.returns
 returns c =
-    let p = c.args.self in
-    pack-op (λ a b. not a) (λ a b. bit_xor a 0xffff_ffff_ffff_ffff) (λ f g (at : ℕ). number-not f at 64) p p (search (rules, words_of)) (search (rules, words_of))
+    pack-op (λ a b. not a) (λ a b. 2 ^ 64 - 1 - a) (λ f g (at : ℕ). number-not f at 64) c.args.self c.args.self (search (rules, words_of)) (search (rules, words_of))
+    c.zip.result (search (rules, words_of)) (λ i l. let k = c.zip.ensures i l in search rules)

@@ -1,6 +1,8 @@
 -- `Predicate::next_after` meets its contract: elements are found by the bits that they start at. Assumes nothing.
 use mathlib.Core.Path.{◌≡◌, sym, ap, ◌∙◌}
 use Prim.Native.Nat.{ℕ, ◌+◌, ◌*◌, ◌/◌, ◌%◌, ◌^◌}
+use native.Mathlib.Decide.{dec_lt}
+use native.Mathlib.Nat.{min-eq_left, min-eq_right}
 use native.Mathlib.Omega.{arith}
 use borrow.Author.Rules.{rules}
 use Rattle.bits.specs.Search.{first_from}
@@ -40,16 +42,13 @@ returns-then-b-ge256 c =
     let k = shift a.size in
     next-none k (active k a.self) (a.start + 1) a.elements _ (found (goal.at.returns-then-b-ge256 c).After-lowest_from-b) (active_past k a.self (search (rules, words_of))) (omega arith) c.if-b-ge256.true
 
-pub returns-then-e-elements : goal.returns-then-e-elements
-returns-then-e-elements c =
+pub returns : goal.returns
+returns c =
     let a = c.args in
     let k = shift a.size in
-    let e = element (goal.at.returns-then-e-elements c).After-lowest_from-b in
-    e ∙ next-within k (active k a.self) (a.start + 1) a.elements _ (found (goal.at.returns-then-e-elements c).After-lowest_from-b) c.if-b-ge256.false (rw e at c.if-e-elements.true)
-
-pub returns-else-e-elements : goal.returns-else-e-elements
-returns-else-e-elements c =
-    let a = c.args in
-    let k = shift a.size in
-    let e = element (goal.at.returns-else-e-elements c).After-lowest_from-b in
-    next_beyond k (active k a.self) (a.start + 1) a.elements _ (found (goal.at.returns-else-e-elements c).After-lowest_from-b) c.if-b-ge256.false (omega arith) (rw e at c.if-e-elements.false)
+    let f = found (goal.at.returns c).After-lowest_from-b in
+    let e = element (goal.at.returns c).After-lowest_from-b in
+    elim (dec_lt (c.lowest_from-b.result / 2 ^ k) a.elements) [
+      | yes l ↦ c.min.ensures ∙ rw e (min-eq_left (omega arith)) ∙ next-within k (active k a.self) (a.start + 1) a.elements _ f c.if-b-ge256.false l
+      | no l ↦ c.min.ensures ∙ rw e (min-eq_right (omega arith)) ∙ next_beyond k (active k a.self) (a.start + 1) a.elements _ f c.if-b-ge256.false (omega arith) (omega arith)
+    ]

@@ -8,4 +8,6 @@ use Rattle.predicates.proofs.Words.{words_of, pack-op}
 use Rattle.predicates.proofs.Predicate.or.Goals as goal
 
 pub returns : goal.returns
-returns c = pack-op ◌||◌ bit_or (λ f g (at : ℕ). number-or f g at 64) c.args.self c.args.other (search (rules, words_of)) (search (rules, words_of))
+returns c =
+    pack-op ◌||◌ bit_or (λ f g (at : ℕ). number-or f g at 64) c.args.self c.args.other (search (rules, words_of)) (search (rules, words_of))
+    c.zip.result (search (rules, words_of)) (λ i l. let k = c.zip.ensures i l in search rules)

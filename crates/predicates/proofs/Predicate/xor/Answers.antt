@@ -9,4 +9,6 @@ use Rattle.predicates.proofs.Predicate.xor.Goals as goal
 
 pub returns : goal.returns
 unfolding xor
-returns c = pack-op xor bit_xor (λ f g (at : ℕ). number-xor f g at 64) c.args.self c.args.other (search (rules, words_of)) (search (rules, words_of))
+returns c =
+    pack-op xor bit_xor (λ f g (at : ℕ). number-xor f g at 64) c.args.self c.args.other (search (rules, words_of)) (search (rules, words_of))
+    c.zip.result (search (rules, words_of)) (λ i l. let k = c.zip.ensures i l in search rules)

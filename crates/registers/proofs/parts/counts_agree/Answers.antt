@@ -10,7 +10,7 @@ use Rattle.registers.proofs.parts.counts_agree.Goals as goal
 
 pub loop-i-init : goal.loop-i-init
 unfolding some
-loop-i-init c = (omega arith, c.least-n.ensures, refl)
+loop-i-init c = refl
 
 pub loop-i-preserved : goal.loop-i-preserved
 loop-i-preserved c =
@@ -18,7 +18,7 @@ loop-i-preserved c =
     let a = c.args in
     let p = a.p.now in
     let k = a.counts.now in
-    (omega arith, l.invariant.1, agree_more a.low (predicates_of p) (counts_from k) l.i l.bad _ _ _ _ (read_in p l.i (omega arith)) (counts_in_lem k l.i (omega arith)) c.difference-bad.ensures l.invariant.2 refl)
+    agree_more a.low (predicates_of p) (counts_from k) l.i l.bad _ _ _ _ (read_in p l.i (omega arith)) (c.counts_in.ensures ∙ counts_in_lem k l.i (omega arith)) c.difference-bad.ensures l.invariant refl
 
 pub returns : goal.returns
 returns c =
@@ -26,4 +26,4 @@ returns c =
     let a = c.args in
     let p = a.p.now in
     let k = a.counts.now in
-    l.invariant.2 ∙ ap (λ (n : ℕ). not (some (unlike a.low (predicates_of p) (counts_from k)) n)) (omega (arith, predicates_length p, counts_length k))
+    l.invariant ∙ ap (λ (n : ℕ). not (some (unlike a.low (predicates_of p) (counts_from k)) n)) (omega (arith, predicates_length p, counts_length k))

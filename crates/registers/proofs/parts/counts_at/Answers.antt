@@ -1,12 +1,8 @@
 -- `counts_at` meets its contract. Assumes nothing.
-use mathlib.Core.Path.{◌∙◌}
-use native.Mathlib.Omega.{arith}
-use borrow.Author.Rules.{rules}
-use Rattle.registers.proofs.PartLaws.{counts_in_lem, counts_out}
+use mathlib.Core.Path.{ap, ◌∙◌}
+use Rattle.registers.specs.Parts.{counts_as}
+use Rattle.registers.proofs.PartLaws.{counts_read}
 use Rattle.registers.proofs.parts.counts_at.Goals as goal
 
-pub returns-then-i-counts : goal.returns-then-i-counts
-returns-then-i-counts c = search (counts_in_lem, rules) depth 9
-
 pub returns : goal.returns
-returns c = c.none.ensures ∙ counts_out _ _ (omega arith)
+returns c = c.counts_in.ensures ∙ ap counts_as c.item.ensures ∙ counts_read _ _

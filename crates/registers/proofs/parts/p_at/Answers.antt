@@ -1,11 +1,14 @@
 -- `p_at` meets its contract. Assumes nothing.
-use mathlib.Core.Path.{◌∙◌}
-use native.Mathlib.Omega.{arith}
-use Rattle.registers.proofs.PartLaws.{read_in, read_out}
+use mathlib.Core.List.{List}
+use mathlib.Core.Path.{ap, ◌∙◌}
+use Prim.Native.Nat.{ℕ}
+use lib.ListN.{get_or}
+use Rattle.predicates.specs.declared.Predicate.{Predicate}
+use Rattle.registers.proofs.PartLaws.{read_at}
 use Rattle.registers.proofs.parts.p_at.Goals as goal
 
-pub returns-then-i-p : goal.returns-then-i-p
-returns-then-i-p c = read_in c.args.p.now c.args.r (omega arith)
-
 pub returns : goal.returns
-returns c = c.none.ensures ∙ read_out c.args.p.now c.args.r (omega arith)
+returns c =
+    let a = c.args in
+    let q : List ℕ → Predicate = λ w. record { words = w } in
+    ap q (c.item.ensures ∙ ap (λ (d : Predicate). get_or a.p.now a.r d.words) c.none.ensures) ∙ read_at a.p.now a.r

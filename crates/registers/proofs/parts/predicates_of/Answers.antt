@@ -1,20 +1,16 @@
 -- `predicates_of` meets its contract. Assumes nothing.
-use native.Mathlib.Omega.{arith}
-use lib.ListN.{length-set}
-use Rattle.registers.specs.Parts.{predicates_of}
-use Rattle.registers.proofs.PartLaws.{predicates_length, read_in}
-use Rattle.predicates.specs.Predicate.{all_false}
-use Rattle.registers.proofs.PartLaws.{copied_all, copied_more}
+use borrow.Author.Rules.{rules}
+use mathlib.Core.List.{List, []}
+use mathlib.Core.Path.{◌≡◌, ◌∙◌}
+use Prim.Native.Nat.{ℕ}
+use lib.ListN.{length}
+use Rattle.registers.proofs.Registers.{default_any, length_mapped}
+use Rattle.registers.proofs.PartLaws.{filled, by_words}
 use Rattle.registers.proofs.parts.predicates_of.Goals as goal
-
-pub loop-i-preserved : goal.loop-i-preserved
-loop-i-preserved c =
-    let l = c.loop-i in
-    let p = c.args.p in
-    (omega arith, simp length-set l.invariant.1, l.invariant.2, copied_more l.r (predicates_of p) l.i all_false _ (omega arith) (omega (arith, predicates_length p)) (read_in p l.i (omega arith)) l.invariant.3)
 
 pub returns : goal.returns
 returns c =
-    let l = c.loop-i in
-    let p = c.args.p in
-    copied_all l.r (predicates_of p) l.i (omega arith) (omega (arith, predicates_length p)) l.invariant.3
+    let xs = c.args.p in
+    let l : length xs ≡ 17 = search (rules, length_mapped) in
+    let e = filled _ (λ (w : List ℕ). record { words = w }) _ xs c.from_fn.result 17 [] c.from_fn.ensures.items l (λ i y q b k. (search (rules, default_any), search rules)) in
+    e ∙ by_words xs

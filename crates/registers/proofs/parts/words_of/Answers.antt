@@ -2,17 +2,15 @@
 use native.Mathlib.Omega.{arith}
 use lib.ListN.{length-set}
 use Rattle.registers.specs.Parts.{predicates_of}
-use Rattle.registers.proofs.PartLaws.{predicates_length}
-use Rattle.registers.proofs.PartLaws.{copied_all, words_more}
+use Rattle.registers.proofs.PartLaws.{predicates_length, copied_all, words_more}
 use Rattle.registers.proofs.parts.words_of.Goals as goal
 
-pub loop-i-preserved : goal.loop-i-preserved
-loop-i-preserved c =
-    let l = c.loop-i in
-    let p = c.args.p in
-    (omega arith, simp length-set l.invariant.1, l.invariant.2, words_more l.r p l.i _ (omega arith) (omega arith) l.invariant.3)
+pub loop-r-preserved : goal.loop-r-preserved
+loop-r-preserved c =
+    let l = c.loop-r in
+    (simp length-set l.invariant.0, l.invariant.1, words_more l.rows c.args.p l.r _ (omega arith) (omega arith) l.invariant.2)
 
 pub returns : goal.returns
 returns c =
-    let l = c.loop-i in
-    copied_all (predicates_of l.r) c.args.p l.i (omega (arith, predicates_length l.r)) (omega arith) l.invariant.3
+    let l = c.loop-r in
+    copied_all (predicates_of l.rows) c.args.p l.r (omega (arith, predicates_length l.rows)) (omega arith) l.invariant.2

@@ -2,14 +2,14 @@
 use Rattle.words.proofs.Reading.{reading}
 use Rattle.words.proofs.read.decode.Goals as goal
 
-pub returns-then-is_while_one : goal.returns-then-is_while_one
-returns-then-is_while_one c = search reading depth 9
+pub returns-then-has_bits : goal.returns-then-has_bits
+returns-then-has_bits c = search reading depth 9
 
-pub returns-then-is_while_pair : goal.returns-then-is_while_pair
-returns-then-is_while_pair c = search reading depth 9
+pub returns-then-has_bits-2 : goal.returns-then-has_bits-2
+returns-then-has_bits-2 c = search reading depth 9
 
-pub returns-then-is_while_counter : goal.returns-then-is_while_counter
-returns-then-is_while_counter c = search reading depth 9
+pub returns-then-has_bits-3 : goal.returns-then-has_bits-3
+returns-then-has_bits-3 c = search reading depth 9
 
 pub returns : goal.returns
 returns c = search reading depth 9

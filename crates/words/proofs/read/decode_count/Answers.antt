@@ -2,17 +2,17 @@
 use Rattle.words.proofs.Reading.{reading}
 use Rattle.words.proofs.read.decode_count.Goals as goal
 
-pub returns-then-is_saturating : goal.returns-then-is_saturating
-returns-then-is_saturating c = search reading depth 9
+pub returns-then-has_bits : goal.returns-then-has_bits
+returns-then-has_bits c = search reading depth 9
 
-pub returns-then-is_inc_dec : goal.returns-then-is_inc_dec
-returns-then-is_inc_dec c = search reading depth 9
+pub returns-then-has_bits-2 : goal.returns-then-has_bits-2
+returns-then-has_bits-2 c = search reading depth 9
 
-pub returns-then-is_cntp : goal.returns-then-is_cntp
-returns-then-is_cntp c = search reading depth 9
+pub returns-then-has_bits-3 : goal.returns-then-has_bits-3
+returns-then-has_bits-3 c = search reading depth 9
 
-pub returns-then-is_cntp_counter : goal.returns-then-is_cntp_counter
-returns-then-is_cntp_counter c = search reading depth 9
+pub returns-then-has_bits-4 : goal.returns-then-has_bits-4
+returns-then-has_bits-4 c = search reading depth 9
 
 pub returns : goal.returns
 returns c = search reading depth 9

@@ -2,17 +2,17 @@
 use Rattle.words.proofs.Reading.{reading}
 use Rattle.words.proofs.read.decode_predicate.Goals as goal
 
-pub returns-then-is_pnext : goal.returns-then-is_pnext
-returns-then-is_pnext c = search reading depth 9
+pub returns-then-has_bits : goal.returns-then-has_bits
+returns-then-has_bits c = search reading depth 9
 
-pub returns-then-is_pfirst : goal.returns-then-is_pfirst
-returns-then-is_pfirst c = search reading depth 9
+pub returns-then-has_bits-2 : goal.returns-then-has_bits-2
+returns-then-has_bits-2 c = search reading depth 9
 
-pub returns-then-is_ptest : goal.returns-then-is_ptest
-returns-then-is_ptest c = search reading depth 9
+pub returns-then-has_bits-3 : goal.returns-then-has_bits-3
+returns-then-has_bits-3 c = search reading depth 9
 
-pub returns-then-is_pfalse : goal.returns-then-is_pfalse
-returns-then-is_pfalse c = search reading depth 9
+pub returns-then-has_bits-4 : goal.returns-then-has_bits-4
+returns-then-has_bits-4 c = search reading depth 9
 
 pub returns-then-is_logic : goal.returns-then-is_logic
 returns-then-is_logic c = search reading depth 9

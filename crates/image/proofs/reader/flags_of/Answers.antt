@@ -1,7 +1,0 @@
--- `flags_of` meets its contract. Assumes nothing.
-use Rattle.image.specs.Reading.{flags_in}
-use Rattle.image.proofs.reader.flags_of.Goals as goal
-
-pub returns : goal.returns
-unfolding flags_in
-returns c = cc
