@@ -15,13 +15,14 @@ use registers::State;
 use shared::{Kernel, Shared, Stepped};
 use std::io::{Input, Read};
 use std::{fmt, io};
+use walk::Request;
 
 // The most places of a list.
 const PLACES: usize = 512;
 // The most units of a title: one more than may be folded.
 const UNITS: usize = 4097;
 
-// What the rest of a record is, by the number of its kind.
+// What the rest of a record is. `Kind::of` has the kinds' numbers.
 #[derive(Clone, Copy, PartialEq, Eq, Debug)]
 enum Kind {
     // The image of a state and words; the reply (1 byte), the refused word's reply (1), the number of words done (4), the image of the state after.
@@ -267,16 +268,14 @@ fn walk_agrees(rest: &[u8]) -> bool
 fn walk_is(state: State, asked: &[u8], list: &mut [u64]) -> bool
     ensures { result ≡ true → Walks state asked.now list.old }
 {
-    let walked = walk::walk(
-        state,
-        register(asked, 0),
-        register(asked, 1),
-        register(asked, 2),
-        register(asked, 3),
-        register(asked, 4),
-        list,
-        octets::number_at(asked, 9, 8),
-    );
+    let request = Request {
+        size: register(asked, 0),
+        n: register(asked, 1),
+        m: register(asked, 2),
+        d: register(asked, 3),
+        k: register(asked, 4),
+    };
+    let walked = walk::walk(state, request, list, octets::number_at(asked, 9, 8));
     let end = octets::after(asked, 30);
     replies::number(walked.reply) == octets::byte(asked, 17)
         && walked.count == octets::number_at(asked, 18, 8)
