@@ -94,7 +94,7 @@ fn judge(rt: &(impl Input + Print), mut bytes: [u8; ROOM]) -> io::Result<()> {
     println!(rt; "titles {}", tally.titles)
 }
 
-// The records one after the other, to the end or to the first that is malformed.
+// The records one after the other, to the end or to the first that is malformed. By hand: a record's length stands in it.
 fn compare(rt: &impl Print, bytes: &[u8]) -> io::Result<Tally> {
     let mut tally = Tally::default();
     let mut number: u64 = 0;
@@ -209,6 +209,7 @@ fn holds(kind: Kind, rest: &[u8]) -> bool
 }
 
 // The state and the number of words of an image that is read without a fault; its words are put in the lent list.
+#[tactic(auto, using(crate::proofs::Answers::reads_if))]
 fn read_whole(image: &[u8], words: &mut [u32; 4096]) -> Option<Reading>
     ensures { IfSome result (Reads image.now words.new) }
 {
@@ -222,10 +223,8 @@ fn run_agrees(rest: &[u8]) -> bool
     let Some(reading) = read_whole(block(rest), &mut words) else {
         return false;
     };
-    let ran = Machine {
-        state: reading.state,
-    }
-    .run(&words[..reading.count]);
+    let state = reading.state;
+    let ran = Machine { state }.run(&words[..reading.count]);
     let answer = past_block(rest);
     replies::number(ran.reply) == octets::byte(answer, 0)
         && replies::number(ran.refused) == octets::byte(answer, 1)
@@ -347,6 +346,7 @@ fn title_is(rest: &[u8], title: &mut [u16], folded: &mut [u16]) -> bool
 }
 
 // Puts a unit of two bytes at each place of a title.
+#[tactic(auto, using(crate::proofs::Answers::all_parts))]
 fn put_units(bs: &[u8], title: &mut [u16])
     ensures { title.new ≡ parts value 2 (length title.old) bs.now }
 {
@@ -356,6 +356,7 @@ fn put_units(bs: &[u8], title: &mut [u16])
 }
 
 // Whether a list is these bytes, eight for each place.
+#[tactic(auto, using(crate::proofs::Answers::all_parts))]
 fn list_is(list: &[u64], bs: &[u8]) -> bool
     ensures { result ≡ true → list.now ≡ parts value 8 (length list.now) bs.now }
 {
