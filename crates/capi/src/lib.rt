@@ -234,7 +234,7 @@ pub extern "C" fn plokamyr_read(image: &[u8], words: &mut [u32]) -> Reading
             state: reading.state,
         },
         Err(refusal) => Reading {
-            reply: u32::from(refusal.number()),
+            reply: number(Err(refusal)),
             count: 0,
             state: image::blank(),
         },
@@ -250,7 +250,7 @@ pub extern "C" fn plokamyr_write(state: State, words: &[u32], image: &mut [u8]) 
     match image::write(state, words, image) {
         Ok(length) => Written { reply: 0, length },
         Err(refusal) => Written {
-            reply: u32::from(refusal.number()),
+            reply: number(Err(refusal)),
             length: 0,
         },
     }
@@ -277,7 +277,7 @@ pub extern "C" fn plokamyr_decode(word: u32, row: &mut [u8; 9]) -> u32
             *row = words::row_of(i);
             0
         }
-        Err(refusal) => u32::from(refusal.number()),
+        Err(refusal) => number(Err(refusal)),
     }
 }
 
@@ -292,6 +292,6 @@ pub extern "C" fn plokamyr_encode(row: &[u8; 9], word: &mut u32) -> u32
             *word = w;
             0
         }
-        Err(refusal) => u32::from(refusal.number()),
+        Err(refusal) => number(Err(refusal)),
     }
 }

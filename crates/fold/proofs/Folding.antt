@@ -29,9 +29,6 @@ pub one_folded : (positions t₀ t u : List ℕ) (i : ℕ) → Folded positions 
 unfolding folded_first
 one_folded positions t₀ t u i h l e k = (omega arith, (rw add-one (e ∙ ap (folded_one (get_or positions i 0)) h.1.0), k ∙ h.1.1))
 
-pub all_folded : (positions t₀ t : List ℕ) (i : ℕ) → Folded positions t₀ t i → length positions ≤ i → t ≡ folded_first positions (length positions) t₀
-all_folded positions t₀ t i h l = let same : i ≡ length positions = omega (arith, h.0) in h.1.0 ∙ ap (λ (n : ℕ). folded_first positions n t₀) same
-
 -- ---- the title after it
 
 -- positions that begin alike fold alike

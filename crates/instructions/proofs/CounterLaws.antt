@@ -217,9 +217,6 @@ end_fits vl m f x e he hf = omega (arith, mark_end_le vl m)
 pub held_fits : (vl m f x e y h : ℕ) → h ≡ min e y → e ≡ min x f → f ≡ 4 * (predicate_length vl / 2 ^ m) * 2 ^ m → h ≤ 1024
 held_fits vl m f x e y h hh he hf = omega (arith, end_fits vl m f x e he hf)
 
-pub size-lt : (size : Size) (k : ℕ) → k ≡ shift size → k < 4
-size-lt size k e = omega (arith, shift-lt size)
-
 pub larger_lt : (k m s : ℕ) → s ≡ max k m → k < 4 → m < 4 → s < 4
 larger_lt k m s e hk hm =
     elim (dec_lt k m) [

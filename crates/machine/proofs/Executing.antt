@@ -24,10 +24,6 @@ use Rattle.instructions.specs.Instructions.{compute_of}
 use Rattle.instructions.specs.Operands.{registers_of}
 use Rattle.machine.specs.Execute.{values_of, apply, execute_of}
 
-pub values_are : (s : State) (r : Registers) (rn rm : ℕ) (pg pn pm : Predicate) (c : Counts) → rn ≡ read_x s r.rn → rm ≡ read_x s r.rm
-    → pg ≡ read_p s r.pg → pn ≡ read_p s r.pn → pm ≡ read_p s r.pm → c ≡ read_counts s r.pm → record { pg = pg; pn = pn; pm = pm; counts = c; rn = rn; rm = rm } ≡ values_of s r
-values_are s r rn rm pg pn pm c hn hm hg hpn hpm hc = λ i. record { pg = hg i; pn = hpn i; pm = hpm i; counts = hc i; rn = hn i; rm = hm i }
-
 -- the number NZCV stands for the flags
 pub effect_back : (e : Effect) → effect_in (computed e) ≡ e
 effect_back e = λ i. record { rd = e.rd; pd = e.pd; pd2 = e.pd2; flags = flags_back e.flags i }

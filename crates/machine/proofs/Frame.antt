@@ -88,7 +88,3 @@ module _ (s : State) (r : Registers) (e : Effect) where
 pub untouched : (s : State) (i : Instruction) → Untouched s (execute_of s i) (registers_of i)
 unfolding execute_of
 untouched s i = apply_untouched s (registers_of i) (compute_of i (values_of s (registers_of i)) s.vl)
-
-pub execute_sized : (s : State) (i : Instruction) → Sized s → Sized (execute_of s i)
-unfolding execute_of
-execute_sized s i = apply_sized s (registers_of i) (compute_of i (values_of s (registers_of i)) s.vl)

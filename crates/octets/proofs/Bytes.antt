@@ -1,14 +1,14 @@
 -- Laws of bytes, of parts and of runs of stores, each once over the size of a part. Assumes nothing.
 use mathlib.Core.List.{List, [], ◌∷◌, ◌++◌, append_assoc, append-nil}
 use mathlib.Core.Path.{◌≡◌, refl, sym, ap, ◌∙◌, subst}
-use Prim.Native.Nat.{ℕ, zero, suc, ◌+◌, ◌-◌, ◌*◌, ◌/◌, ◌%◌, ◌^◌, ◌≤◌, ◌<◌}
-use native.Mathlib.Nat.{sub-zero, add-zero, add-suc, suc-add, add_assoc, add_comm, mul_assoc, mul-le-mul, zero-mul, suc-mul, pow-suc, div-add-mod', div-lt_iff_lt-mul, lt_of_lt_of_le, pow-le-pow_right}
+use Prim.Native.Nat.{ℕ, zero, suc, ◌+◌, ◌-◌, ◌*◌, ◌/◌, ◌^◌, ◌≤◌, ◌<◌}
+use native.Mathlib.Nat.{sub-zero, add-zero, add-suc, suc-add, add_comm, mul_assoc, mul-le-mul, zero-mul, suc-mul, pow-suc, div-add-mod', div-lt_iff_lt-mul, lt_of_lt_of_le, pow-le-pow_right}
 use native.Mathlib.Numerals.{add-one}
 use native.Mathlib.Omega.{arith}
 use lib.Arith.{digits_div, digits_mod, digits_lt}
 use lib.Dec.{lit<}
 use lib.ListN.{length, take, drop, get_or, set, length-append, length-take, length-drop, drop_of_length-le}
-use lib.Seq.{take_at, drop_at, take-add, drop-drop, drop-cons, get_or-drop, length-take-le, sets, sets-eq}
+use lib.Seq.{take_at, drop_at, take-add, drop-drop, get_or-drop, length-take-le, sets, sets-eq}
 use mir.Syntax.{w8}
 use mir.Val.{Fits}
 use lib.ListN.{replicate}
@@ -120,15 +120,6 @@ sets_all l vs n e d =
     let r : drop (0 + length vs) l ≡ [] = drop_of_length-le l {i = 0 + length vs} (omega arith) in
     sets-eq vs l 0 h ∙ rw r (append-nil vs)
 
--- a turn of a loop that stores the bytes of a number: what is left to store
-pub le-turn : (l : List ℕ) (at i k x : ℕ) → i < k → sets (set l (at + i) (x % 256)) (at + (i + 1)) (le (k - (i + 1)) (x / 256)) ≡ sets l (at + i) (le (k - i) x)
-unfolding le
-le-turn l at i k x h = let d : k - i ≡ suc (k - (i + 1)) = omega arith in rw (d, add-one, add-suc)
-
-pub le_end : (l : List ℕ) (at i k x : ℕ) → k ≤ i → sets l (at + i) (le (k - i) x) ≡ l
-unfolding le
-le_end l at i k x h = let d : k - i ≡ 0 = omega arith in rw d
-
 -- what a product of two small numbers is below
 pub small : (n m : ℕ) → n ≤ 4096 → m ≤ 4096 → n * m ≤ 16777216
 small n m h k = mul-le-mul h k
@@ -187,15 +178,3 @@ module _ {A : Type 0} (g : A → List ℕ) (k : ℕ) (len : (x : A) → length (
   unfolding joined
   length-joined [] = sym (zero-mul k)
   length-joined (x ∷ xs) = simp (length-append, len x, length-joined xs, suc-mul) (omega arith)
-
-  -- a turn of a loop that writes them: what is left to write
-  pub put_turn : (l m : List ℕ) (at i : ℕ) (xs : List A) (d : A) → i < length xs → m ≡ sets l (at + i * k) (g (get_or xs i d))
-      → sets m (at + (i + 1) * k) (joined g (drop (i + 1) xs)) ≡ sets l (at + i * k) (joined g (drop i xs))
-  unfolding joined
-  put_turn l m at i xs d h w =
-      let e : at + (i + 1) * k ≡ at + i * k + length (g (get_or xs i d)) = rw (len, add-one, suc-mul, add_assoc) in
-      rw (w, e, add-one, drop-cons xs i d h) (sym (sets_append l (at + i * k) (g (get_or xs i d)) (joined g (drop (suc i) xs))))
-
-  pub put_end : (l : List ℕ) (at i : ℕ) (xs : List A) → length xs ≤ i → sets l (at + i * k) (joined g (drop i xs)) ≡ l
-  unfolding joined
-  put_end l at i xs h = rw (drop_of_length-le xs h)

@@ -118,5 +118,10 @@ module _ (op : Bool → Bool → Bool) (on_words : ℕ → ℕ → ℕ)
   op-word : (k : ℕ) → on_words (word p k) (word q k) ≡ number (λ b. op (bit_at p b) (bit_at q b)) (k * 64) 64
   op-word k = sym (law (bit_at p) (bit_at q) (k * 64) ∙ ap₂ on_words (word_bits p hp k) (word_bits q hq k))
 
-  pub pack-op : (r : Predicate) → Words r → ((i : ℕ) → i < 4 → word r i ≡ on_words (word p i) (word q i)) → r ≡ pack (λ b. op (bit_at p b) (bit_at q b))
-  pack-op r hr h = from_words (λ b. op (bit_at p b) (bit_at q b)) r hr (λ i l. h i l ∙ op-word i)
+  pub pack-op : ◌≡◌ {A = Predicate} (record { words = on_words (word p 0) (word q 0) ∷ on_words (word p 1) (word q 1) ∷ on_words (word p 2) (word q 2) ∷ on_words (word p 3) (word q 3) ∷ [] })
+      (pack (λ b. op (bit_at p b) (bit_at q b)))
+  pack-op = four_words (λ b. op (bit_at p b) (bit_at q b)) _ _ _ _ (op-word 0) (op-word 1) (op-word 2) (op-word 3)
+
+  -- the same of a predicate that has these words
+  pub op_packed : (r : Predicate) → Words r → ((i : ℕ) → i < 4 → word r i ≡ on_words (word p i) (word q i)) → r ≡ pack (λ b. op (bit_at p b) (bit_at q b))
+  op_packed r hr h = from_words (λ b. op (bit_at p b) (bit_at q b)) r hr (λ i l. h i l ∙ op-word i)

@@ -23,12 +23,6 @@ use Rattle.tally.proofs.Sizes.{tally_is}
 pub lows-le : (x : ℕ) → lows 8 x ≤ 0x0f0f_0f0f_0f0f_0f0f
 lows-le x = le_trans (le_of_eq (sym (low_halves x))) (and_le_r x 0x0f0f_0f0f_0f0f_0f0f)
 
-pub plane-le : (a b c d : ℕ) → plane 8 a b c d ≤ 0x4444_4444_4444_4444
-unfolding rep
-plane-le a b c d =
-    le_trans (le_of_eq (sym (plane_is 8 a b c d)))
-    (add-le-add (add-le-add (add-le-add (and_le_r a (rep 17 8)) (and_le_r b (rep 17 8))) (and_le_r c (rep 17 8))) (and_le_r d (rep 17 8)))
-
 pub low_sum-le : (x : ℕ) → low_sum 8 x ≤ 120
 unfolding low_sum
 low_sum-le x = eight _ _ _ _ _ _ _ _ (at _) (at _) (at _) (at _) (at _) (at _) (at _) (at _)

@@ -72,10 +72,6 @@ module _ (size : Size) (n m d k : ℕ) (s : State) (l : List ℕ) (g : Within si
   unfolding with_x with_p with_flags
   get_counts = get_or-set_other (set s.counts d (counts_of s.vl pd)) k d _ no_counts g.other_p ∙ get_or-set_same s.counts d (counts_of s.vl pd) no_counts (omega (arith, g.cs, g.d-below))
 
-  pub get-vl : (base s n d k x pd pk f).vl ≡ s.vl
-  unfolding with_x with_p with_flags
-  get-vl = refl
-
   pub put_pk : (q : Predicate) (h : Flags) → with_p (with_flags (base s n d k x pd pk f) h) k q ≡ base s n d k x pd q h
   unfolding with_x with_p with_flags
   put_pk q h = rw (set-set (set s.p d pd) k pk q, set-set (set s.counts d (counts_of s.vl pd)) k (counts_of s.vl pk) (counts_of s.vl q))

@@ -104,9 +104,6 @@ module _ {size : Size} {n m d k budget : ℕ} {s : State} {l : List ℕ} {h : Lo
   abbrev new : ℕ → Predicate → Predicate → Flags → State
   new = base s n d k
 
-  pub list_kept : length h.list ≡ length l
-  list_kept = ap (λ (v : Walk State). length v.list) (sym b.reached) ∙ (later_run M h.count (begin s l)).as_long
-
   -- after the last turn
   pub once_ended : not h.ended ≡ false → plain_walk size n m d k budget s l ≡ walk_as h
   once_ended e = settled M h.count budget (begin s l) w b.reached (not-false h.ended e) b.budgeted

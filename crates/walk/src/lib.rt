@@ -20,7 +20,7 @@ use replies::{Refusal, Reply};
 use scalars::Condition;
 
 // The instruction to come.
-#[derive(Clone, Copy)]
+#[derive(Clone, Copy, PartialEq, Eq, Debug)]
 pub enum Phase {
     Pfalse,
     Whilelo,

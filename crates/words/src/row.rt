@@ -19,7 +19,7 @@ fn eq_bit(c: Condition) -> u8
 fn size_number(size: Size) -> u8
     ensures { result ≡ shift size }
 {
-    size.shift() as u8
+    size as u8
 }
 
 // A variant is no type, so the rows of the longest three are made from their fields.

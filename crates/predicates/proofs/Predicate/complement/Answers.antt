@@ -3,10 +3,10 @@ use mathlib.Core.Bool.{not}
 use Prim.Native.Nat.{ℕ, ◌-◌, ◌^◌}
 use borrow.Author.Rules.{rules}
 use Rattle.bits.proofs.Bits.{number-not}
-use Rattle.predicates.proofs.Words.{words_of, pack-op}
+use Rattle.predicates.proofs.Words.{words_of, op_packed}
 use Rattle.predicates.proofs.Predicate.complement.Goals as goal
 
 pub returns : goal.returns
 returns c =
-    pack-op (λ a b. not a) (λ a b. 2 ^ 64 - 1 - a) (λ f g (at : ℕ). number-not f at 64) c.args.self c.args.self (search (rules, words_of)) (search (rules, words_of))
+    op_packed (λ a b. not a) (λ a b. 2 ^ 64 - 1 - a) (λ f g (at : ℕ). number-not f at 64) c.args.self c.args.self (search (rules, words_of)) (search (rules, words_of))
     c.zip.result (search (rules, words_of)) (λ i l. let k = c.zip.ensures i l in search rules)
