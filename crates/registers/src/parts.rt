@@ -117,8 +117,8 @@ fn difference(q: Predicate, c: Counts, low: bool) -> u64
     tally::tally_in(tally::planes_of(q)) ^ c.packed()
 }
 
-// Whether the counts are those of the predicates that they stand beside; `low` goes by the first word of each alone. No test in the loop depends on a register, so that it is compiled to two registers
-// at a time.
+// Whether the counts are those of the predicates that they stand beside; `low` goes by the first word of each alone. No test in the loop depends on a register, so that it is compiled to several
+// registers at a time. By index: as a zip it is compiled to fewer, and is slower.
 #[inline(never)]
 pub fn counts_agree(p: &[[u64; 4]], counts: &[[u16; 4]], low: bool) -> bool
     ensures { result ≡ not (some (λ i. not (same_counts (counts_in (tally_in low (get_or (predicates_of p.now) i all_false))) (get_or (counts_from counts.now) i no_counts)))
