@@ -63,14 +63,7 @@ pub fn image_line(reply: u8, at: usize, buffer: &mut [u8]) -> usize
 fn width(n: u32) -> usize
     ensures { (result ≡ length (decimal n)) × (result ≤ 10) }
 {
-    let mut w: usize = 1;
-    let mut v = n;
-    // By value: std has no logarithm to the base 10.
-    while 10 <= v {
-        v /= 10;
-        w += 1;
-    }
-    w
+    n.checked_ilog10().unwrap_or(0) as usize + 1
 }
 
 // A digit below 16.
