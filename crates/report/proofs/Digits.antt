@@ -1,4 +1,4 @@
--- Laws of digits: the loops that write and count them. Assumes nothing.
+-- Laws of digits: what writes and counts them. Assumes nothing.
 use mathlib.Core.Bool.{Bool, true, false}
 use mathlib.Core.List.{List, [], ◌∷◌, ◌++◌}
 use mathlib.Core.Path.{◌≡◌, refl, sym, ap, ◌∙◌}
