@@ -1,8 +1,8 @@
--- Laws of digits: the loops that write and count them. Assumes nothing.
+-- Laws of digits: what writes and counts them. Assumes nothing.
 use mathlib.Core.Bool.{Bool, true, false}
 use mathlib.Core.List.{List, [], ◌∷◌, ◌++◌}
-use mathlib.Core.Path.{◌≡◌, refl, ap, ◌∙◌}
-use Prim.Native.Nat.{ℕ, zero, suc, ◌+◌, ◌-◌, ◌/◌, ◌%◌, ◌^◌, ◌≤◌, ◌<◌}
+use mathlib.Core.Path.{◌≡◌, refl, sym, ap, ◌∙◌}
+use Prim.Native.Nat.{ℕ, zero, suc, ◌+◌, ◌-◌, ◌*◌, ◌/◌, ◌%◌, ◌^◌, ◌≤◌, ◌<◌}
 use native.Mathlib.Decide.{dec_lt}
 use native.Mathlib.Nat.{add-zero, add-suc, suc-add, pow-suc, div-lt_iff_lt-mul}
 use native.Mathlib.Numerals.{add-one}
@@ -12,6 +12,7 @@ use lib.Dec.{lit<}
 use lib.ListN.{length, set, length-append}
 use lib.Seq.{sets, set_comm}
 use borrow.Author.Tests.{lt-ltb, le-ltb}
+use Rattle.std.specs.Prelude.{Option, None, Some, IfNone, IfSome, unwrap_or}
 use Rattle.bits.specs.Choice.{digit}
 use Rattle.report.specs.Lines.{symbol, digits, decimal_in, decimal}
 
@@ -99,6 +100,19 @@ length_most (suc k) n h =
       | yes l ↦ rw (decimal_one n l) (omega arith)
       | no l ↦ rw (length_more n (omega arith)) (omega (arith, length_most k (n / 10) ((div-lt_iff_lt-mul (lit< tt)).1 (rw pow-suc at h))))
     ]
+
+length_between : (k n : ℕ) → 10 ^ k ≤ n → n < 10 * 10 ^ k → length (decimal n) ≡ k + 1
+length_between zero n l h = ap length (decimal_one n (omega arith))
+length_between (suc k) n l h =
+    let p : 10 ^ suc k ≡ 10 ^ k * 10 = pow-suc 10 k in
+    let i : length (decimal (n / 10)) ≡ k + 1 = length_between k (n / 10) (omega arith) (omega arith) in
+    omega (arith, length_more n (omega arith))
+
+-- one more than the logarithm to the base 10, and 1 of 0
+pub length_logarithm : (n : ℕ) (o : Option ℕ) → IfNone o (n ≡ 0) → IfSome o (λ k. 10 ^ k ≤ n) → IfSome o (λ k. n < 10 * 10 ^ k) → unwrap_or o 0 + 1 ≡ length (decimal n)
+unfolding decimal_in
+length_logarithm n None z l h = rw z refl
+length_logarithm n (Some k) z l h = sym (length_between k n l h)
 
 by_digits : (k n : ℕ) → n ≤ k → decimal_in k n ≡ digits 10 (length (decimal_in k n)) n
 unfolding decimal_in digits

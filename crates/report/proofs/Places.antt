@@ -75,7 +75,7 @@ module _ (n w r : ℕ) (f : Flags) (x y : ℕ) (ex : x ≡ length (decimal n)) (
       ∙ more b c q t f3 f4 (rw es at ec) (rw (field_length 10 y r space) (omega arith)))
 
 -- a text, a decimal number and a newline
-pub text-length : (text : List ℕ) (n x : ℕ) → x ≡ length (decimal n) → x + (length text + 1) ≡ length (text ++ (decimal n ++ (newline ∷ [])))
+pub text-length : (text : List ℕ) (n x : ℕ) → x ≡ length (decimal n) → x + length text + 1 ≡ length (text ++ (decimal n ++ (newline ∷ [])))
 text-length text n x e = simp length-append (omega arith)
 
 pub text_put : (text : List ℕ) (n x : ℕ) → x ≡ length (decimal n) → (l a b : List ℕ) (at next : ℕ) → a ≡ sets l at text → next ≡ at + length text → b ≡ sets a next (digits 10 x n ++ (newline ∷ []))

@@ -33,44 +33,41 @@ pub fn word_line(
 }
 
 // The last line: how many words were done.
+#[tactic(auto, unfolding(crate::specs::Lines::end_line))]
 pub fn end_line(done: u32, at: usize, buffer: &mut [u8]) -> usize
     ensures value { result ≡ after (end_line done) at (length buffer.old) }
     ensures buffer_after { buffer.new ≡ placed (end_line done) at buffer.old }
 {
-    let a = width(done);
-    if buffer.len().saturating_sub(at) < a + 5 {
-        return at;
-    }
-    let at = put_text(buffer, at, b"end ");
-    put_field(buffer, at, a, 10, done, b'\n')
+    named_line(b"end ", done, at, buffer)
 }
 
 // The only line of a refused image.
+#[tactic(auto, unfolding(crate::specs::Lines::image_line))]
 pub fn image_line(reply: u8, at: usize, buffer: &mut [u8]) -> usize
     ensures value { result ≡ after (image_line reply) at (length buffer.old) }
     ensures buffer_after { buffer.new ≡ placed (image_line reply) at buffer.old }
 {
-    let short = u32::from(reply);
-    let a = width(short);
-    if buffer.len().saturating_sub(at) < a + 7 {
+    named_line(b"image ", u32::from(reply), at, buffer)
+}
+
+// A text and a number: the position after the line, or `at` if it does not fit.
+fn named_line(name: &[u8], number: u32, at: usize, buffer: &mut [u8]) -> usize
+    ensures value { result ≡ after (name.now ++ (decimal number ++ (newline ∷ []))) at (length buffer.old) }
+    ensures buffer_after { buffer.new ≡ placed (name.now ++ (decimal number ++ (newline ∷ []))) at buffer.old }
+{
+    let a = width(number);
+    if buffer.len().saturating_sub(at) < a + name.len() + 1 {
         return at;
     }
-    let at = put_text(buffer, at, b"image ");
-    put_field(buffer, at, a, 10, short, b'\n')
+    let at = put_text(buffer, at, name);
+    put_field(buffer, at, a, 10, number, b'\n')
 }
 
 // How many decimal digits n has.
 fn width(n: u32) -> usize
     ensures { (result ≡ length (decimal n)) × (result ≤ 10) }
 {
-    let mut w: usize = 1;
-    let mut v = n;
-    // By value: std has no logarithm to the base 10.
-    while 10 <= v {
-        v /= 10;
-        w += 1;
-    }
-    w
+    n.checked_ilog10().unwrap_or(0) as usize + 1
 }
 
 // A digit below 16.

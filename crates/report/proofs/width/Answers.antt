@@ -1,16 +1,15 @@
 -- `width` meets its contract. Assumes nothing.
-use mathlib.Core.Path.{ap}
+use mathlib.Core.Path.{◌≡◌}
+use Prim.Native.Nat.{◌+◌}
 use native.Mathlib.Omega.{arith}
 use lib.ListN.{length}
-use Rattle.report.proofs.Digits.{decimal_one, length_more, length_most}
+use Rattle.report.specs.Lines.{decimal}
+use Rattle.report.proofs.Digits.{length_logarithm, length_most}
 use Rattle.report.proofs.width.Goals as goal
-
-pub loop-v-preserved : goal.loop-v-preserved
-loop-v-preserved c = (omega (arith, length_more c.loop-v.v (omega arith)), omega arith)
 
 pub returns : goal.returns
 returns c =
-    let l = c.loop-v in
     let n = c.args.n in
-    let d = ap length (decimal_one l.v (omega arith)) in
-    (omega arith, omega (arith, length_most 9 n (omega arith)))
+    let e = c.checked_ilog10.ensures in
+    let d : c.unwrap_or.result + 1 ≡ length (decimal n) = rw c.unwrap_or.ensures (length_logarithm n _ e.none e.power_le e.next_power_gt) in
+    (d, omega (arith, length_most 9 n (omega arith)))
