@@ -21,12 +21,12 @@ use Rattle.predicates.specs.declared.Predicate.{Predicate}
 use Rattle.predicates.specs.Predicate.{bit_at, pack, has_bit_from}
 use Rattle.predicates.specs.Words.{Words}
 use Rattle.predicates.proofs.Words.{word, word_bits, pack-bit, pack_bits, pack_cong, four_words}
-use Rattle.octets.specs.Bytes.{le, value, number_at, AreBytes}
+use Rattle.octets.specs.Bytes.{le, value, parts, AreBytes}
 use Rattle.std.specs.Int.{to_le_bytes}
 use mir.Syntax.{w64}
 use Rattle.image.specs.Image.{predicate_bytes}
 use Rattle.image.specs.Reading.{predicate_of}
-use Rattle.octets.proofs.Bytes.{length-le, value-le, value-below, le-value-at, bytes_drop, sets_append, sets_all}
+use Rattle.octets.proofs.Bytes.{length-le, value-le, value-below, le-value-at, bytes_drop, parts_at, sets_append, sets_all}
 
 -- k bytes have 8 k bits
 pub byte_bits : (k : ℕ) → 256 ^ k ≡ 2 ^ (8 * k)
@@ -216,13 +216,8 @@ predicate_within k bs h b =
     ])
 
 -- four words read are the predicate
-pub from_words : (bs ws : List ℕ) → AreBytes bs → length ws ≡ 4 → ((i : ℕ) → i < 4 → get_or ws i 0 ≡ number_at (i * 8) 8 bs) → ◌≡◌ {A = Predicate} (record { words = ws }) (predicate_of bs)
-unfolding predicate_of
-from_words bs (a ∷ b ∷ c ∷ d ∷ []) h e each =
-    let w : (at : ℕ) → value (take 8 (drop at bs)) ≡ number (test_bit (value bs)) (8 * at) 64 = λ at. word_of bs at h (bytes_drop at bs h) in
-    four_words (test_bit (value bs)) a b c d (each 0 (lit< tt) ∙ w 0) (each 1 (lit< tt) ∙ w 8) (each 2 (lit< tt) ∙ w 16) (each 3 (lit< tt) ∙ w 24)
-from_words bs [] h e each = absurd (omega arith)
-from_words bs (a ∷ []) h e each = absurd (omega arith)
-from_words bs (a ∷ b ∷ []) h e each = absurd (omega arith)
-from_words bs (a ∷ b ∷ c ∷ []) h e each = absurd (omega arith)
-from_words bs (a ∷ b ∷ c ∷ d ∷ x ∷ ws) h e each = absurd (omega arith)
+pub from_words : (bs : List ℕ) → AreBytes bs → ◌≡◌ {A = Predicate} (record { words = parts value 8 4 bs }) (predicate_of bs)
+unfolding predicate_of parts
+from_words bs h =
+    let w : (i : ℕ) → i < 4 → get_or (parts value 8 4 bs) i 0 ≡ number (test_bit (value bs)) (8 * (i * 8)) 64 = λ i l. parts_at value 8 4 i bs 0 l ∙ word_of bs (i * 8) h (bytes_drop (i * 8) bs h) in
+    four_words (test_bit (value bs)) _ _ _ _ (w 0 (lit< tt)) (w 1 (lit< tt)) (w 2 (lit< tt)) (w 3 (lit< tt))

@@ -6,10 +6,10 @@ use mathlib.Core.Bool.{Bool, true, false, not, ◌||◌}
 use mathlib.Core.List.{List, [], ◌∷◌}
 use mathlib.Core.Path.{◌≡◌, refl, sym, ap, ap₂, ◌∙◌}
 use Prim.Native.Nat.{ℕ, zero, suc, ◌+◌, ◌*◌, ◌≤◌, ◌<◌}
-use native.Mathlib.Nat.{le_trans, mul-le-mul, mul-le-mul_right, mul-zero}
+use native.Mathlib.Nat.{mul-le-mul_right, mul-zero}
 use native.Mathlib.Numerals.{add-one}
 use native.Mathlib.Omega.{arith}
-use lib.Dec.{ltb, lit≤}
+use lib.Dec.{ltb}
 use lib.ListN.{length, take, drop, get_or, length-take, drop_of_length-le}
 use lib.Seq.{drop-cons}
 use borrow.Author.Tests.{lt-ltb, le-ltb, ltb-false, not-false}
@@ -54,34 +54,6 @@ past_last vl (suc (suc (suc (suc (suc (suc i)))))) h = refl
 
 pub past-after : (vl i : ℕ) (rest : List ℕ) → false ≡ ltb i 6 → drop 4 rest ≡ after (section_at (sections vl) i) rest
 past-after vl i rest h = rw (past_last vl i h, mul-zero) refl
-
--- an item's bytes, whatever byte an image has for VL
-pub item_most : (vl i : ℕ) → vl ≤ 32640 → (section_at (sections vl) i).item ≤ 510
-unfolding sections
-item_most vl zero h = lit≤ tt
-item_most vl (suc zero) h = lit≤ tt
-item_most vl (suc (suc zero)) h = omega arith
-item_most vl (suc (suc (suc zero))) h = omega arith
-item_most vl (suc (suc (suc (suc zero)))) h = lit≤ tt
-item_most vl (suc (suc (suc (suc (suc zero))))) h = lit≤ tt
-item_most vl (suc (suc (suc (suc (suc (suc i)))))) h = lit≤ tt
-
-pub high_most : (vl i : ℕ) → (section_at (sections vl) i).highest ≤ 4096
-unfolding sections
-high_most vl zero = lit≤ tt
-high_most vl (suc zero) = lit≤ tt
-high_most vl (suc (suc zero)) = lit≤ tt
-high_most vl (suc (suc (suc zero))) = lit≤ tt
-high_most vl (suc (suc (suc (suc zero)))) = lit≤ tt
-high_most vl (suc (suc (suc (suc (suc zero))))) = lit≤ tt
-high_most vl (suc (suc (suc (suc (suc (suc i)))))) = lit≤ tt
-
--- the content of a section fits a number, whatever its count
-pub content_fits : (vl i n k : ℕ) (shape : Shape) → vl ≤ 32640 → shape ≡ shape_of (section_at (sections vl) i) → n ≤ k → n * shape.item ≤ k * 510
-content_fits vl i n k shape h e l = mul-le-mul l (rw e (item_most vl i h))
-
-pub content_most : (vl i n : ℕ) (shape : Shape) → vl ≤ 32640 → shape ≡ shape_of (section_at (sections vl) i) → n ≤ shape.highest → n * shape.item ≤ 4096 * 510
-content_most vl i n shape h e l = content_fits vl i n 4096 shape h e (le_trans l (rw e (high_most vl i)))
 
 pub count-lt : (rest : List ℕ) → ((i : ℕ) → Fits w8 (get_or rest i 0)) → count_of rest < 4294967296
 count-lt rest h = value-below 4 (take 4 rest) (omega (arith, length-take 4 rest)) (bytes_take 4 rest (bytes_of rest h))

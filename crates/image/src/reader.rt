@@ -53,7 +53,7 @@ pub fn state_of(image: &[u8]) -> State
     let settings = octets::after(image, 4);
     let access = octets::byte(settings, 2) == 1;
     let flags = flags_of(content_of(image, Section::Flags));
-    let x = x_of(content_of(image, Section::X));
+    let x = numbers(content_of(image, Section::X));
     let size = (vl / 64) as usize;
     let p = predicates_of(content_of(image, Section::P), size, ffr_of(image));
     State::new(vl, octets::byte(settings, 1), access, flags, x, p)
@@ -72,8 +72,9 @@ fn flags_of(content: &[u8]) -> Flags
     }
 }
 
-fn x_of(content: &[u8]) -> [u64; 31]
-    ensures { result ≡ parts value 8 31 content.now }
+// So many numbers of eight bytes.
+fn numbers<const N: usize>(content: &[u8]) -> [u64; N]
+    ensures { result ≡ parts value 8 N content.now }
 {
     array::from_fn(|i| octets::number_at(content, i * 8, 8))
 }
@@ -105,14 +106,11 @@ fn predicates_of(content: &[u8], size: usize, ffr: Predicate) -> [Predicate; reg
 fn predicate_of(bs: &[u8]) -> Predicate
     ensures { result ≡ predicate_of bs.now }
 {
-    Predicate {
-        words: array::from_fn(|i| octets::number_at(bs, i * 8, 8)),
-    }
+    Predicate { words: numbers(bs) }
 }
 
 // Puts a word in each place of the list. By index: bytes past the end read as 0.
 pub fn fill(content: &[u8], list: &mut [u32])
-    requires { length list.old ≤ 4096 }
     ensures { list.new ≡ parts value 4 (length list.old) content.now }
 {
     for (i, word) in list.iter_mut().enumerate() {

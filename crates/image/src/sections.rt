@@ -89,21 +89,20 @@ impl Section {
         self.shape(vl).optional & (count_of(rest) == 4)
     }
 
-    // What follows it. The bound on VL, which an image names in one byte, is asked here and by `reply` alone.
+    // What follows it. The length saturates: the largest number lies past the end of each slice.
     fn after(self, vl: u64, rest: &[u8]) -> &[u8]
-        requires { vl ≤ 32640 }
         ensures { result.now ≡ after_section (section_at (sections vl) (place_of self)) rest.now }
     {
         if self.is_missing(vl, rest) {
             return rest;
         }
-        octets::after(rest, 4 + count_of(rest) * self.shape(vl).item)
+        let bytes = count_of(rest).saturating_mul(self.shape(vl).item);
+        octets::after(rest, bytes.saturating_add(4))
     }
 
     // Count cut; no fault if it is missing; count wrong, content cut, content wrong.
     #[tactic(auto, unfolding(crate::specs::Sections::section_reply))]
     fn reply(self, vl: u64, rest: &[u8]) -> Reply
-        requires { vl ≤ 32640 }
         ensures { result ≡ section_reply (section_at (sections vl) (place_of self)) rest.now }
     {
         if rest.len() < 4 {
@@ -117,8 +116,8 @@ impl Section {
         if n < shape.lowest || shape.highest < n {
             return Err(Refusal::NotAllowed);
         }
-        let bytes = n * shape.item;
-        if rest.len() < 4 + bytes {
+        let bytes = n.saturating_mul(shape.item);
+        if rest.len() - 4 < bytes {
             return Err(Refusal::ImageCut);
         }
         if self.has_wrong(vl, octets::after(rest, 4), bytes) {
@@ -190,17 +189,6 @@ pub fn is_allowed(section: usize, vl: u64, place: usize, b: u8) -> bool
     }
 }
 
-// What follows a section by its number.
-fn after_section(section: usize, vl: u64, rest: &[u8]) -> &[u8]
-    requires { vl ≤ 32640 }
-    ensures { result.now ≡ after_section (section_at (sections vl) section) rest.now }
-{
-    match SECTIONS.get(section) {
-        Some(named) => named.after(vl, rest),
-        None => octets::after(rest, 4),
-    }
-}
-
 // What is left of an image where a section begins, by its number.
 pub fn start_of(image: &[u8], section: usize) -> &[u8]
     ensures { result.now ≡ start_of (sections_of image.now) section image.now }
@@ -208,7 +196,10 @@ pub fn start_of(image: &[u8], section: usize) -> &[u8]
     let vl = vector_length(image);
     let mut rest = image;
     for i in 0..section {
-        rest = after_section(i, vl, rest);
+        rest = match SECTIONS.get(i) {
+            Some(passed) => passed.after(vl, rest),
+            None => octets::after(rest, 4),
+        };
     }
     rest
 }
