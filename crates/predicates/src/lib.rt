@@ -189,6 +189,7 @@ impl Predicate {
     }
 
     // The first active element from `start` on and below `elements`; `elements` if there is none, or `start` where that is past them.
+    #[inline(always)]
     pub fn next_active(self, size: Size, start: u64, elements: u64) -> u64
         ensures { result ≡ first_from (active (shift size) self) start elements }
     {
@@ -203,6 +204,7 @@ impl Predicate {
     }
 
     // The first active element after `start` and below `elements`, or `elements`; by words.
+    #[inline(never)]
     fn next_after(self, size: Size, start: u64, elements: u64) -> u64
         requires { start < elements }
         ensures { result ≡ first_from (active (shift size) self) (start + 1) elements }
