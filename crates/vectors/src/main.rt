@@ -2,7 +2,7 @@
 // rest (4 bytes), and its rest. Numbers are little-endian; an image stands behind its length (4 bytes).
 #![tactic(auto)]
 
-ghost use Rattle.std.specs.Prelude.{true, [], ◌≡◌, ◌≤◌, ◌<◌, length, take, get_or, IsSome, IfSome};
+ghost use Rattle.std.specs.Prelude.{true, [], ◌≡◌, ◌≤◌, ◌<◌, length, get_or, IsSome, IfSome};
 ghost use Rattle.octets.specs.Bytes.{value, parts};
 ghost use Rattle.predicates.specs.PredTest.{flags_of};
 ghost use Rattle.image.specs.Image.{image_of};
