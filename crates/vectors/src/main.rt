@@ -2,13 +2,13 @@
 // rest (4 bytes), and its rest. Numbers are little-endian; an image stands behind its length (4 bytes).
 #![tactic(auto)]
 
-ghost use Rattle.std.specs.Prelude.{true, [], ◌≡◌, ◌≤◌, ◌<◌, length, take, get_or, IsSome, IfSome};
+ghost use Rattle.std.specs.Prelude.{true, [], ◌≡◌, ◌≤◌, ◌<◌, length, get_or, IsSome, IfSome};
 ghost use Rattle.octets.specs.Bytes.{value, parts};
 ghost use Rattle.predicates.specs.PredTest.{flags_of};
 ghost use Rattle.image.specs.Image.{image_of};
 ghost use Rattle.vectors.specs.Records.{block as block_of, past_block, Reads, RunAgrees, ImageAgrees, Walks, WalkAgrees, turn_of, StepAgrees, TitleFolds, TitleAgrees, kind_number, Agrees};
 
-use image::Reading;
+use image::{Reading, sections};
 use machine::Machine;
 use predicates::Flags;
 use registers::State;
@@ -141,28 +141,22 @@ impl Tally {
     }
 }
 
-// A block is a length in four bytes, and then so many bytes.
-
-fn block_length(bs: &[u8]) -> usize
-    ensures { result ≡ value (take 4 bs.now) }
-{
-    octets::number_at(bs, 0, 4) as usize
-}
+// A block is a length in four bytes, read as the count of a section, and then so many bytes.
 
 fn has_block(bs: &[u8]) -> bool {
-    4 <= bs.len() && block_length(bs) <= bs.len() - 4
+    4 <= bs.len() && sections::count_of(bs) <= bs.len() - 4
 }
 
 fn block(bs: &[u8]) -> &[u8]
     ensures { result.now ≡ block_of bs.now }
 {
-    octets::first(octets::after(bs, 4), block_length(bs))
+    octets::first(octets::after(bs, 4), sections::count_of(bs))
 }
 
 fn past_block(bs: &[u8]) -> &[u8]
     ensures { result.now ≡ past_block bs.now }
 {
-    octets::after(octets::after(bs, 4), block_length(bs))
+    octets::after(octets::after(bs, 4), sections::count_of(bs))
 }
 
 // Whether a record's parts fill it.
@@ -220,11 +214,10 @@ fn run_agrees(rest: &[u8]) -> bool
     ensures { result ≡ true → RunAgrees rest.now }
 {
     let mut words = [0; 4096];
-    let Some(reading) = read_whole(block(rest), &mut words) else {
+    let Some(Reading { state, count }) = read_whole(block(rest), &mut words) else {
         return false;
     };
-    let state = reading.state;
-    let ran = Machine { state }.run(&words[..reading.count]);
+    let ran = Machine { state }.run(&words[..count]);
     let answer = past_block(rest);
     replies::number(ran.reply) == octets::byte(answer, 0)
         && replies::number(ran.refused) == octets::byte(answer, 1)
