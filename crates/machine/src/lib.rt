@@ -55,17 +55,22 @@ pub struct Machine {
 }
 
 impl Machine {
-    // The instruction that a word is, executed; or the state as it was, with the reason.
+    // The instruction that a word is, executed; or the state as it was, with the reason. The engine steps the state's parts; a refusal hands back the given state, which is faster than its parts put together.
     pub fn step(self, word: u32) -> Stepped
         ensures { result ≡ step_of self.state word }
     {
         let state = self.state;
-        if !state.is_legal() {
-            return Stepped::refused(Refusal::IllegalState, state);
+        let settings = state.settings();
+        let mut flags = registers::parts::bits_of_flags(state.flags);
+        let mut x = state.x;
+        let mut p = registers::parts::words_of(state.p);
+        let mut counts = registers::parts::numbers_of(state.counts);
+        if let Err(refusal) = engine::step(settings, &mut flags, &mut x, &mut p, &mut counts, word) {
+            return Stepped::refused(refusal, state);
         }
-        match words::decode(word) {
-            Err(refusal) => Stepped::refused(refusal, state),
-            Ok(i) => attempt(state, i),
+        Stepped {
+            reply: Ok(()),
+            state: registers::parts::state_of(settings, flags, x, p, counts),
         }
     }
 
@@ -103,59 +108,4 @@ fn admission(i: Instruction, level: u8, access: bool, accepted: bool) -> Reply
         return Err(Refusal::NotMonotonic);
     }
     Ok(())
-}
-
-// An instruction that the state may refuse. All registers are read before any is written.
-fn attempt(state: State, i: Instruction) -> Stepped
-    ensures { result ≡ after_word state (Ok i) }
-{
-    let r = instructions::registers_of(i);
-    let v = values(state, r);
-    let accepted = instructions::accepts(i, v);
-    if let Err(refusal) = admission(i, state.level, state.access, accepted) {
-        return Stepped::refused(refusal, state);
-    }
-    let next = apply(state, r, instructions::compute(i, v, state.vl));
-    Stepped {
-        reply: Ok(()),
-        state: next,
-    }
-}
-
-fn values(state: State, r: Registers) -> Values
-    ensures { result ≡ values_of state r }
-{
-    // X is read where it stands: `read_x` takes the state by value, and it would be copied.
-    let rn = registers::parts::x_at(&state.x, r.rn);
-    let rm = registers::parts::x_at(&state.x, r.rm);
-    let pg = state.read_p(r.pg);
-    let pn = state.read_p(r.pn);
-    let pm = state.read_p(r.pm);
-    let counts = state.read_counts(r.pm);
-    Values {
-        pg,
-        pn,
-        pm,
-        counts,
-        rn,
-        rm,
-    }
-}
-
-fn set_flags(state: State, sets: bool, nzcv: u64) -> State
-    ensures { result ≡ pick sets (with_flags state (flags_of nzcv)) state }
-{
-    if sets {
-        return state.with_flags(Flags::of(nzcv));
-    }
-    state
-}
-
-fn apply(state: State, r: Registers, e: Computed) -> State
-    ensures { result ≡ apply_of state r (effect_in e) }
-{
-    set_flags(state, r.flags, e.nzcv)
-        .with_x(r.rd, e.rd)
-        .with_p(r.pd, e.pd)
-        .with_p(r.pd2, e.pd2)
 }
