@@ -31,7 +31,7 @@ use Rattle.machine.specs.Given.Given.{illegal, foreign, unsupported, low, off, b
 use Rattle.machine.specs.Step.{reply_of, answered, after_word, step_of}
 use Rattle.machine.specs.Frame.{Untouched}
 use Rattle.machine.proofs.Frame.{untouched}
-use Rattle.machine.proofs.Steps.{pick_yes, pick_no, step-legal, step_refused}
+use Rattle.machine.proofs.Steps.{pick_yes, pick_no, step-legal, step_leaves}
 
 -- a word that is refused is no instruction
 refused≢ours : {r : Refusal} {i : Instruction} → Err r ≡ Ok i → ⊥
@@ -166,7 +166,7 @@ pub refused-step : (s : State) (w : ℕ) → ((step_of s w).reply ≡ Ok tt → 
 refused-step s w h = go (step_of s w).reply refl
   where
     go : (r : Reply) → (step_of s w).reply ≡ r → (step_of s w).state ≡ s
-    go (Err e) g = ap (λ (t : Stepped). t.state) (sym (step_refused s w e g))
+    go (Err e) g = ap (λ (t : Stepped). t.state) (sym (step_leaves s w e g))
     go (Ok u) g = absurd (h g)
 
 -- an accepted word touches nothing but the registers that its instruction names as written

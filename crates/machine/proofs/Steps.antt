@@ -140,17 +140,17 @@ module _ (s : Settings) (f : List Bool) (x : List ℕ) (p c : List (List ℕ)) (
 
 -- ---- a refusal leaves the state as it was
 
-pub after_refused : (s : State) (d : Result Instruction Refusal) (e : Refusal) → (after_word s d).reply ≡ Err e → answered (Err e) s ≡ after_word s d
+after_leaves : (s : State) (d : Result Instruction Refusal) (e : Refusal) → (after_word s d).reply ≡ Err e → answered (Err e) s ≡ after_word s d
 unfolding after_word
-after_refused s (Err r) e h = ap (λ (z : Reply). answered z s) (sym h)
-after_refused s (Ok i) e h = stops s i (reply_of s i) refl e h
+after_leaves s (Err r) e h = ap (λ (z : Reply). answered z s) (sym h)
+after_leaves s (Ok i) e h = stops s i (reply_of s i) refl e h
 
-pub step_refused : (s : State) (w : ℕ) (e : Refusal) → (step_of s w).reply ≡ Err e → answered (Err e) s ≡ step_of s w
+pub step_leaves : (s : State) (w : ℕ) (e : Refusal) → (step_of s w).reply ≡ Err e → answered (Err e) s ≡ step_of s w
 unfolding step_of
-step_refused s w e = go (legal s)
+step_leaves s w e = go (legal s)
   where
     go : (b : Bool) → (pick b (after_word s (decode_of w)) (answered (Err IllegalState) s)).reply ≡ Err e → answered (Err e) s ≡ pick b (after_word s (decode_of w)) (answered (Err IllegalState) s)
-    go true h = after_refused s (decode_of w) e h
+    go true h = after_leaves s (decode_of w) e h
     go false h = ap (λ (z : Reply). answered z s) (sym h)
 
 -- ---- a legal state stays legal, refused or not
@@ -220,8 +220,8 @@ module _ (s : State) (u : Settings) (w : ℕ) (reply : Reply) (f g : List Bool) 
   pub parts_done : (t : State) → reply ≡ Ok tt → t ≡ state_at u g x q k → answered (Ok tt) t ≡ step_of s w
   parts_done t hr ht = ap (answered (Ok tt)) ht ∙ ap (λ (r : Reply). answered r (state_at u g x q k)) (sym hr) ∙ parts_stepped
 
-  pub parts_refused : (t : Stepped) (e : Refusal) → reply ≡ Err e → t ≡ answered (Err e) s → t ≡ step_of s w
-  parts_refused t e hr ht = ht ∙ step_refused s w e (ap (λ (z : Stepped). z.reply) (sym parts_stepped) ∙ hr)
+  pub parts_refused : (e : Refusal) → reply ≡ Err e → answered (Err e) s ≡ step_of s w
+  parts_refused e hr = step_leaves s w e (ap (λ (z : Stepped). z.reply) (sym parts_stepped) ∙ hr)
 
 pub ran : (s t : State) (u : Settings) (ws : List ℕ) (done : ℕ) (reply refused : Reply) (f g : List Bool) (x : List ℕ) (p q c k : List (List ℕ))
     → u ≡ settings_of s → f ≡ s.flags.n ∷ s.flags.z ∷ s.flags.c ∷ s.flags.v ∷ [] → predicates_of p ≡ s.p

@@ -5,18 +5,11 @@
 // reply to the word it stopped at.
 #![tactic(auto)]
 
-ghost use Rattle.std.specs.Prelude.{◌≡◌, Ok, Err};
-ghost use Rattle.bits.specs.Choice.{pick};
-ghost use Rattle.predicates.specs.PredTest.{flags_of};
-ghost use Rattle.registers.specs.State.{with_flags};
-ghost use Rattle.instructions.specs.Effect.{effect_in};
-ghost use Rattle.machine.specs.Execute.{values_of, apply as apply_of};
-ghost use Rattle.machine.specs.Step.{admission_of, answered, after_word, step_of, run_of};
+ghost use Rattle.std.specs.Prelude.{◌≡◌};
+ghost use Rattle.machine.specs.Step.{admission_of, step_of, run_of};
 
 pub mod engine;
 
-use instructions::{Computed, Registers, Values};
-use predicates::Flags;
 use registers::State;
 use replies::{Refusal, Reply};
 use words::Instruction;
@@ -25,18 +18,6 @@ use words::Instruction;
 pub struct Stepped {
     pub reply: Reply,
     pub state: State,
-}
-
-impl Stepped {
-    // A refusal, with the state that was given.
-    fn refused(refusal: Refusal, state: State) -> Stepped
-        ensures { result ≡ answered (Err refusal) state }
-    {
-        Stepped {
-            reply: Err(refusal),
-            state,
-        }
-    }
 }
 
 // How many words were executed, the reply to the one after them, and the state that they left. The run's own reply is 0, or 4 for an illegal state.
@@ -55,7 +36,7 @@ pub struct Machine {
 }
 
 impl Machine {
-    // The instruction that a word is, executed; or the state as it was, with the reason. The engine steps the state's parts; a refusal hands back the given state, which is faster than its parts put together.
+    // The instruction that a word is, executed; or the state as it was, with the reason. The engine steps the state's parts.
     pub fn step(self, word: u32) -> Stepped
         ensures { result ≡ step_of self.state word }
     {
@@ -65,8 +46,19 @@ impl Machine {
         let mut x = state.x;
         let mut p = registers::parts::words_of(state.p);
         let mut counts = registers::parts::numbers_of(state.counts);
-        if let Err(refusal) = engine::step(settings, &mut flags, &mut x, &mut p, &mut counts, word) {
-            return Stepped::refused(refusal, state);
+        if let Err(refusal) = engine::step(
+            settings,
+            &mut flags,
+            &mut x,
+            &mut p,
+            &mut counts,
+            word,
+        ) {
+            // The given state: its parts put together would be the same, and slower.
+            return Stepped {
+                reply: Err(refusal),
+                state,
+            };
         }
         Stepped {
             reply: Ok(()),
