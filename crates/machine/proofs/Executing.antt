@@ -1,7 +1,7 @@
 -- An instruction executed, from what each part of the code gives. Assumes nothing.
 use mathlib.Core.Bool.{Bool, true, false}
 use mathlib.Core.List.{List}
-use mathlib.Core.Path.{◌≡◌, refl, sym, ap, ◌∙◌}
+use mathlib.Core.Path.{◌≡◌, refl, ap, ◌∙◌}
 use Prim.Native.Nat.{ℕ}
 use lib.ListN.{set}
 use Rattle.bits.specs.Choice.{pick}
@@ -14,7 +14,7 @@ use Rattle.registers.specs.declared.parts.Settings.{Settings}
 use Rattle.tally.specs.declared.Counts.{Counts}
 use Rattle.tally.specs.Counts.{counts_of}
 use Rattle.registers.specs.Parts.{predicates_of, counts_from, flags_from, state_at}
-use Rattle.registers.specs.State.{assembled, read_x, read_p, read_counts, with_x, with_p, with_flags}
+use Rattle.registers.specs.State.{assembled, with_x, with_p, with_flags}
 use Rattle.words.specs.declared.Instruction.{Instruction}
 use Rattle.instructions.specs.declared.operands.Registers.{Registers}
 use Rattle.instructions.specs.declared.operands.Values.{Values}
@@ -41,15 +41,6 @@ pub executes_in : (s : Settings) (f : List Bool) (x : List ℕ) (p c : List (Lis
 executes_in s f x p c t i r v e hr hv he ht = executes (state_at s f x p c) t i r v e hr (hv s f) he ht
 
 -- ---- an effect, written part by part
-
-pub flags_set : (s t : State) (sets : Bool) (n : ℕ) (f : Flags) → sets ≡ true → f ≡ flags_of n → t ≡ with_flags s f → t ≡ pick sets (with_flags s (flags_of n)) s
-flags_set s t sets n f h hf ht = ht ∙ ap (with_flags s) hf ∙ sym (ap (λ (b : Bool). pick b (with_flags s (flags_of n)) s) h)
-
-pub applied : (s s₁ s₂ s₃ t : State) (r : Registers) (e : Computed) → s₁ ≡ pick r.flags (with_flags s (flags_of e.nzcv)) s → s₂ ≡ with_x s₁ r.rd e.rd
-    → s₃ ≡ with_p s₂ r.pd e.pd → t ≡ with_p s₃ r.pd2 e.pd2 → t ≡ apply s r (effect_in e)
-unfolding apply
-applied s s₁ s₂ s₃ t r e h₁ h₂ h₃ h₄ =
-    h₄ ∙ ap (λ (u : State). with_p u r.pd2 e.pd2) (h₃ ∙ ap (λ (u : State). with_p u r.pd e.pd) (h₂ ∙ ap (λ (u : State). with_x u r.rd e.rd) h₁))
 
 pub written : (s : Settings) (f g : List Bool) (x y : List ℕ) (p q o c k l : List (List ℕ)) (r : Registers) (e : Computed)
     → flags_from g ≡ pick r.flags (flags_of e.nzcv) (flags_from f) → y ≡ set x r.rd e.rd

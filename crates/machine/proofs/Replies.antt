@@ -31,7 +31,7 @@ use Rattle.machine.specs.Given.Given.{illegal, foreign, unsupported, low, off, b
 use Rattle.machine.specs.Step.{reply_of, answered, after_word, step_of}
 use Rattle.machine.specs.Frame.{Untouched}
 use Rattle.machine.proofs.Frame.{untouched}
-use Rattle.machine.proofs.Steps.{pick_yes, pick_no, step-legal}
+use Rattle.machine.proofs.Steps.{pick_yes, pick_no, step-legal, step_leaves}
 
 -- a word that is refused is no instruction
 refused≢ours : {r : Refusal} {i : Instruction} → Err r ≡ Ok i → ⊥
@@ -163,25 +163,11 @@ instruction_accepted s i h ok l a t =
 
 -- a reply other than 0 leaves the state as it was
 pub refused-step : (s : State) (w : ℕ) → ((step_of s w).reply ≡ Ok tt → ⊥) → (step_of s w).state ≡ s
-refused-step s w h = let (r, g) = row s w in go r g
+refused-step s w h = go (step_of s w).reply refl
   where
-    go : (r : Reply) → Given s w r → (step_of s w).state ≡ s
-    go (Err IllegalState) (illegal b) = ap (λ (t : Stepped). t.state) (illegal_is s w b)
-    go (Err ForeignWord) (foreign ok b) = ap (λ (t : Stepped). t.state) (refused_is s w ok ForeignWord ((foreign_read w).1 b))
-    go (Err UnsupportedForm) (unsupported ok b k) = ap (λ (t : Stepped). t.state) (refused_is s w ok UnsupportedForm (unread w b k))
-    go (Err LevelTooLow) (low i ok b l) = ap (λ (t : Stepped). t.state) (reply_is s w ok i b (Err LevelTooLow) (too_low s w ok i b l))
-    go (Err AccessOff) (off i ok b l a) = ap (λ (t : Stepped). t.state) (reply_is s w ok i b (Err AccessOff) (by_access s w ok i b false a l))
-    go (Err NotMonotonic) (broken pn ok b l a m) = ap (λ (t : Stepped). t.state) (reply_is s w ok (Wrffr pn) b (Err NotMonotonic) (by_value s w ok (Wrffr pn) b false m a l))
-    go (Ok tt) (done i ok b l a m) = absurd (h (given_reply s w (Ok tt) (done i ok b l a m)))
-    go (Err ImageCut) none = elim none [ ]
-    go (Err NotAllowed) none = elim none [ ]
-    go (Err TrailingBytes) none = elim none [ ]
-    go (Err BufferTooSmall) none = elim none [ ]
-    go (Err FieldPastRange) none = elim none [ ]
-    go (Err BadWalkRegisters) none = elim none [ ]
-    go (Err ListTooShort) none = elim none [ ]
-    go (Err BudgetSpent) none = elim none [ ]
-    go (Err NotOwned) none = elim none [ ]
+    go : (r : Reply) → (step_of s w).reply ≡ r → (step_of s w).state ≡ s
+    go (Err e) g = ap (λ (t : Stepped). t.state) (sym (step_leaves s w e g))
+    go (Ok u) g = absurd (h g)
 
 -- an accepted word touches nothing but the registers that its instruction names as written
 pub accepted_untouched : (s : State) (w : ℕ) (i : Instruction) → decode_of w ≡ Ok i → (step_of s w).reply ≡ Ok tt → Untouched s (step_of s w).state (registers_of i)

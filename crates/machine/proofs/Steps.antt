@@ -138,6 +138,21 @@ module _ (s : Settings) (f : List Bool) (x : List ℕ) (p c : List (List ℕ)) (
   unfolding run_of
   run_begins ws h = sym (pick_yes _ _ _ (run-legal h))
 
+-- ---- a refusal leaves the state as it was
+
+after_leaves : (s : State) (d : Result Instruction Refusal) (e : Refusal) → (after_word s d).reply ≡ Err e → answered (Err e) s ≡ after_word s d
+unfolding after_word
+after_leaves s (Err r) e h = ap (λ (z : Reply). answered z s) (sym h)
+after_leaves s (Ok i) e h = stops s i (reply_of s i) refl e h
+
+pub step_leaves : (s : State) (w : ℕ) (e : Refusal) → (step_of s w).reply ≡ Err e → answered (Err e) s ≡ step_of s w
+unfolding step_of
+step_leaves s w e = go (legal s)
+  where
+    go : (b : Bool) → (pick b (after_word s (decode_of w)) (answered (Err IllegalState) s)).reply ≡ Err e → answered (Err e) s ≡ pick b (after_word s (decode_of w)) (answered (Err IllegalState) s)
+    go true h = after_leaves s (decode_of w) e h
+    go false h = ap (λ (z : Reply). answered z s) (sym h)
+
 -- ---- a legal state stays legal, refused or not
 
 pub after_kept : (s : State) (d : Result Instruction Refusal) → legal s ≡ true → legal (after_word s d).state ≡ true
@@ -194,7 +209,19 @@ module _ (ws : List ℕ) (s : State) (r : Ran) (done : ℕ) (ok : legal s ≡ tr
 pub kept_on : (s : State) (d : Result Instruction Refusal) (t : Stepped) → legal s ≡ true → t ≡ after_word s d → legal t.state ≡ true
 kept_on s d t k e = ap (λ (x : Stepped). legal x.state) e ∙ after_kept s d k
 
--- ---- a run of a state by value, over its parts
+-- ---- a step and a run of a state by value, over its parts
+
+module _ (s : State) (u : Settings) (w : ℕ) (reply : Reply) (f g : List Bool) (x : List ℕ) (p q c k : List (List ℕ)) (hu : u ≡ settings_of s)
+    (hf : f ≡ s.flags.n ∷ s.flags.z ∷ s.flags.c ∷ s.flags.v ∷ []) (hp : predicates_of p ≡ s.p) (hc : counts_from c ≡ s.counts)
+    (h : answered reply (state_at u g x q k) ≡ step_of (state_at u f s.x p c) w) where
+  parts_stepped : answered reply (state_at u g x q k) ≡ step_of s w
+  parts_stepped = h ∙ ap (λ (z : State). step_of z w) (parts_are s u f p c hu hf hp hc)
+
+  pub parts_done : (t : State) → reply ≡ Ok tt → t ≡ state_at u g x q k → answered (Ok tt) t ≡ step_of s w
+  parts_done t hr ht = ap (answered (Ok tt)) ht ∙ ap (λ (r : Reply). answered r (state_at u g x q k)) (sym hr) ∙ parts_stepped
+
+  pub parts_refused : (e : Refusal) → reply ≡ Err e → answered (Err e) s ≡ step_of s w
+  parts_refused e hr = step_leaves s w e (ap (λ (z : Stepped). z.reply) (sym parts_stepped) ∙ hr)
 
 pub ran : (s t : State) (u : Settings) (ws : List ℕ) (done : ℕ) (reply refused : Reply) (f g : List Bool) (x : List ℕ) (p q c k : List (List ℕ))
     → u ≡ settings_of s → f ≡ s.flags.n ∷ s.flags.z ∷ s.flags.c ∷ s.flags.v ∷ [] → predicates_of p ≡ s.p

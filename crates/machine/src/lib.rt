@@ -5,18 +5,11 @@
 // reply to the word it stopped at.
 #![tactic(auto)]
 
-ghost use Rattle.std.specs.Prelude.{◌≡◌, Ok, Err};
-ghost use Rattle.bits.specs.Choice.{pick};
-ghost use Rattle.predicates.specs.PredTest.{flags_of};
-ghost use Rattle.registers.specs.State.{with_flags};
-ghost use Rattle.instructions.specs.Effect.{effect_in};
-ghost use Rattle.machine.specs.Execute.{values_of, apply as apply_of};
-ghost use Rattle.machine.specs.Step.{admission_of, answered, after_word, step_of, run_of};
+ghost use Rattle.std.specs.Prelude.{◌≡◌};
+ghost use Rattle.machine.specs.Step.{admission_of, step_of, run_of};
 
 pub mod engine;
 
-use instructions::{Computed, Registers, Values};
-use predicates::Flags;
 use registers::State;
 use replies::{Refusal, Reply};
 use words::Instruction;
@@ -25,18 +18,6 @@ use words::Instruction;
 pub struct Stepped {
     pub reply: Reply,
     pub state: State,
-}
-
-impl Stepped {
-    // A refusal, with the state that was given.
-    fn refused(refusal: Refusal, state: State) -> Stepped
-        ensures { result ≡ answered (Err refusal) state }
-    {
-        Stepped {
-            reply: Err(refusal),
-            state,
-        }
-    }
 }
 
 // How many words were executed, the reply to the one after them, and the state that they left. The run's own reply is 0, or 4 for an illegal state.
@@ -55,17 +36,33 @@ pub struct Machine {
 }
 
 impl Machine {
-    // The instruction that a word is, executed; or the state as it was, with the reason.
+    // The instruction that a word is, executed; or the state as it was, with the reason. The engine steps the state's parts.
     pub fn step(self, word: u32) -> Stepped
         ensures { result ≡ step_of self.state word }
     {
         let state = self.state;
-        if !state.is_legal() {
-            return Stepped::refused(Refusal::IllegalState, state);
+        let settings = state.settings();
+        let mut flags = registers::parts::bits_of_flags(state.flags);
+        let mut x = state.x;
+        let mut p = registers::parts::words_of(state.p);
+        let mut counts = registers::parts::numbers_of(state.counts);
+        if let Err(refusal) = engine::step(
+            settings,
+            &mut flags,
+            &mut x,
+            &mut p,
+            &mut counts,
+            word,
+        ) {
+            // The given state: its parts put together would be the same, and slower.
+            return Stepped {
+                reply: Err(refusal),
+                state,
+            };
         }
-        match words::decode(word) {
-            Err(refusal) => Stepped::refused(refusal, state),
-            Ok(i) => attempt(state, i),
+        Stepped {
+            reply: Ok(()),
+            state: registers::parts::state_of(settings, flags, x, p, counts),
         }
     }
 
@@ -103,59 +100,4 @@ fn admission(i: Instruction, level: u8, access: bool, accepted: bool) -> Reply
         return Err(Refusal::NotMonotonic);
     }
     Ok(())
-}
-
-// An instruction that the state may refuse. All registers are read before any is written.
-fn attempt(state: State, i: Instruction) -> Stepped
-    ensures { result ≡ after_word state (Ok i) }
-{
-    let r = instructions::registers_of(i);
-    let v = values(state, r);
-    let accepted = instructions::accepts(i, v);
-    if let Err(refusal) = admission(i, state.level, state.access, accepted) {
-        return Stepped::refused(refusal, state);
-    }
-    let next = apply(state, r, instructions::compute(i, v, state.vl));
-    Stepped {
-        reply: Ok(()),
-        state: next,
-    }
-}
-
-fn values(state: State, r: Registers) -> Values
-    ensures { result ≡ values_of state r }
-{
-    // X is read where it stands: `read_x` takes the state by value, and it would be copied.
-    let rn = registers::parts::x_at(&state.x, r.rn);
-    let rm = registers::parts::x_at(&state.x, r.rm);
-    let pg = state.read_p(r.pg);
-    let pn = state.read_p(r.pn);
-    let pm = state.read_p(r.pm);
-    let counts = state.read_counts(r.pm);
-    Values {
-        pg,
-        pn,
-        pm,
-        counts,
-        rn,
-        rm,
-    }
-}
-
-fn set_flags(state: State, sets: bool, nzcv: u64) -> State
-    ensures { result ≡ pick sets (with_flags state (flags_of nzcv)) state }
-{
-    if sets {
-        return state.with_flags(Flags::of(nzcv));
-    }
-    state
-}
-
-fn apply(state: State, r: Registers, e: Computed) -> State
-    ensures { result ≡ apply_of state r (effect_in e) }
-{
-    set_flags(state, r.flags, e.nzcv)
-        .with_x(r.rd, e.rd)
-        .with_p(r.pd, e.pd)
-        .with_p(r.pd2, e.pd2)
 }
