@@ -164,14 +164,16 @@ passed {p} {mask} {from} {q} {w} r e b h l =
     ]
 
 -- and the next one, if nothing is left of that
-pub reached_next : {p : Predicate} {mask from : ℕ} → (i : ℕ) → Reached p mask from (i - 1) 0 → Words p → mask < 2 ^ 64 → 0 < i → i < 4 → Reached p mask from i (bit_and (word p i) mask)
-reached_next {p} {mask} {from} i r ok m s h =
+pub reached_next : {p : Predicate} {mask from q w : ℕ} → Reached p mask from q w → Words p → mask < 2 ^ 64 → w ≡ 0 → q + 1 < 4
+    → Reached p mask from (q + 1) (bit_and (word p (q + 1)) mask)
+reached_next {p} {mask} {from} {q} {w} r ok m e h =
     record {
       place = h;
       after = omega (arith, r.after);
-      none = λ b a l. passed r refl b a (omega arith);
-      left = λ k l. masked-word p ok mask i k m l ∙ sym (ap (λ (t : Bool). t && under p mask (i * 64 + k)) (le-leb from (i * 64 + k) (omega (arith, r.after))));
-      fits = omega (arith, and_le_r (word p i) mask);
+      none = λ b a l. passed r e b a (omega arith);
+      left = λ i l. masked-word p ok mask (q + 1) i m l
+          ∙ sym (ap (λ (t : Bool). t && under p mask ((q + 1) * 64 + i)) (le-leb from ((q + 1) * 64 + i) (omega (arith, r.after))));
+      fits = omega (arith, and_le_r (word p (q + 1)) mask);
     }
 
 -- where something is left, its lowest bit is the one

@@ -93,6 +93,10 @@ pub four_words : (f : ℕ → Bool) (a b c d : ℕ) → a ≡ number f 0 64 → 
 unfolding pack
 four_words f a b c d ha hb hc hd = rw (ha, hb, hc, hd)
 
+same_words : (a b c d u v w x : ℕ) → a ≡ u → b ≡ v → c ≡ w → d ≡ x
+    → ◌≡◌ {A = Predicate} (record { words = a ∷ b ∷ c ∷ d ∷ [] }) (record { words = u ∷ v ∷ w ∷ x ∷ [] })
+same_words a b c d u v w x ha hb hc hd = rw (ha, hb, hc, hd)
+
 -- a predicate is its bits, packed
 pub pack_bits : (p : Predicate) → Words p → pack (bit_at p) ≡ p
 pack_bits p ok =
@@ -124,4 +128,7 @@ module _ (op : Bool → Bool → Bool) (on_words : ℕ → ℕ → ℕ)
 
   -- the same of a predicate that has these words
   pub op_packed : (r : Predicate) → Words r → ((i : ℕ) → i < 4 → word r i ≡ on_words (word p i) (word q i)) → r ≡ pack (λ b. op (bit_at p b) (bit_at q b))
-  op_packed r hr h = from_words (λ b. op (bit_at p b) (bit_at q b)) r hr (λ i l. h i l ∙ op-word i)
+  op_packed r hr h =
+      sym (ap (λ (ws : List ℕ). record { words = ws }) (four_of r.words hr.four))
+      ∙ same_words _ _ _ _ _ _ _ _ (h 0 (omega arith)) (h 1 (omega arith)) (h 2 (omega arith)) (h 3 (omega arith))
+      ∙ pack-op

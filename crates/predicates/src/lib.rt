@@ -189,7 +189,6 @@ impl Predicate {
     }
 
     // The first active element from `start` on and below `elements`; `elements` if there is none, or `start` where that is past them.
-    #[inline(always)]
     pub fn next_active(self, size: Size, start: u64, elements: u64) -> u64
         ensures { result ≡ first_from (active (shift size) self) start elements }
     {
@@ -204,7 +203,6 @@ impl Predicate {
     }
 
     // The first active element after `start` and below `elements`, or `elements`; by words.
-    #[inline(never)]
     fn next_after(self, size: Size, start: u64, elements: u64) -> u64
         requires { start < elements }
         ensures { result ≡ first_from (active (shift size) self) (start + 1) elements }
@@ -228,19 +226,21 @@ impl Predicate {
             return from;
         }
         let mask = bits::element_mask(size);
-        let start = (from / 64) as usize;
+        let mut i = (from / 64) as usize;
         // Of the first word, the bits from `from` on.
-        let first = ((self.words[start] & mask) >> (from % 64)) << (from % 64);
-        if first != 0 {
-            return (start as u64) * 64 + bits::lowest_bit(first);
-        }
-        for i in start + 1..4 {
-            let word = self.words[i] & mask;
+        let mut word = ((self.words[i] & mask) >> (from % 64)) << (from % 64);
+        // A loop that ends by `break`: the form that is asked for.
+        let found = loop {
             if word != 0 {
-                return (i as u64) * 64 + bits::lowest_bit(word);
+                break (i as u64) * 64 + bits::lowest_bit(word);
             }
-        }
-        256
+            i += 1;
+            if 4 <= i {
+                break 256;
+            }
+            word = self.words[i] & mask;
+        };
+        found
     }
 
     // Only bit `b` set. By a branch for each word: with four choices, or a store at b / 64, a walk is slower.

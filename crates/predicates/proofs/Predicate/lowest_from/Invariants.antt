@@ -3,5 +3,8 @@ use Prim.Native.Nat.{◌-◌}
 use Rattle.predicates.proofs.WordSearch.{Reached}
 use Rattle.predicates.proofs.Predicate.lowest_from.Given as goal
 
-abbrev pub invariant-loop-i : goal.invariant-loop-i
-invariant-loop-i l = Reached l.self l.mask l.from (l.i - 1) 0
+abbrev pub invariant-loop-word : goal.invariant-loop-word
+invariant-loop-word l = Reached l.self l.mask l.from l.i l.word
+
+abbrev pub decreases-loop-word : goal.decreases-loop-word
+decreases-loop-word l = 4 - l.i
