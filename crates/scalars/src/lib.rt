@@ -77,7 +77,7 @@ trait Operand: Copy + PartialOrd {
     fn signed(self) -> Self::Signed
         ensures { number result ≡ to_z width (value self) };
 
-    // Incremented by one or decremented, wrapping at the width: all ones are -1.
+    // Incremented by one or decremented, wrapping at the width.
     fn next(self, up: bool) -> Self
         ensures { value result ≡ next_operand width up (value self) };
 
@@ -109,11 +109,15 @@ impl Operand for u64 {
     }
 
     fn signed(self) -> i64 {
-        self.cast_signed()
+        signed64(self)
     }
 
     fn next(self, up: bool) -> u64 {
-        self.wrapping_add(if up { 1 } else { u64::MAX })
+        if up {
+            self.wrapping_add(1)
+        } else {
+            self.wrapping_sub(1)
+        }
     }
 
     #[tactic(auto, using(crate::proofs::Clamps::stops))]
@@ -122,8 +126,8 @@ impl Operand for u64 {
         match (unsigned, decrement) {
             (true, true) => self.saturating_sub(k),
             (true, false) => self.saturating_add(k),
-            (false, true) => bits_of(self.cast_signed().saturating_sub_unsigned(k)),
-            (false, false) => bits_of(self.cast_signed().saturating_add_unsigned(k)),
+            (false, true) => bits_of(signed64(self).saturating_sub_unsigned(k)),
+            (false, false) => bits_of(signed64(self).saturating_add_unsigned(k)),
         }
     }
 }
@@ -146,11 +150,15 @@ impl Operand for u32 {
     }
 
     fn signed(self) -> i32 {
-        self.cast_signed()
+        signed32(self)
     }
 
     fn next(self, up: bool) -> u32 {
-        self.wrapping_add(if up { 1 } else { u32::MAX })
+        if up {
+            self.wrapping_add(1)
+        } else {
+            self.wrapping_sub(1)
+        }
     }
 
     #[tactic(auto, using(crate::proofs::Clamps::stops))]
@@ -159,8 +167,8 @@ impl Operand for u32 {
         match (unsigned, decrement) {
             (true, true) => u64::from(self.saturating_sub(k)),
             (true, false) => u64::from(self.saturating_add(k)),
-            (false, true) => bits_of(i64::from(self.cast_signed().saturating_sub_unsigned(k))),
-            (false, false) => bits_of(i64::from(self.cast_signed().saturating_add_unsigned(k))),
+            (false, true) => bits_of(i64::from(signed32(self).saturating_sub_unsigned(k))),
+            (false, false) => bits_of(i64::from(signed32(self).saturating_add_unsigned(k))),
         }
     }
 }
