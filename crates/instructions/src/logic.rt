@@ -4,6 +4,7 @@ ghost use Rattle.instructions.specs.Effect.{computed};
 ghost use Rattle.instructions.specs.Logic.{logic_result, logic_of};
 
 use super::effect::Computed;
+use bits::Size;
 use predicates::Predicate;
 use words::Operation;
 
@@ -25,7 +26,6 @@ fn result(operation: Operation, pg: Predicate, pn: Predicate, pm: Predicate) -> 
 }
 
 // `flags` tells whether they are set, by PredTest over bytes under Pg as it was read.
-#[tactic(auto, unfolding(crate::specs::Logic::logic_of))]
 pub fn logic(
     operation: Operation,
     flags: bool,
@@ -37,8 +37,9 @@ pub fn logic(
     ensures { result ≡ computed (logic_of operation flags pg pn pm vl) }
 {
     let q = result(operation, pg, pn, pm);
-    if flags {
-        return Computed::tested(q, pg, vl);
+    if !flags {
+        return Computed::predicate(q);
     }
-    Computed::predicate(q)
+    let live = Predicate::live(vl, Size::B);
+    Computed::flagged(q, predicates::test_bits(pg.and(live), q))
 }
