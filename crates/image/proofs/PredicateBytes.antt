@@ -144,7 +144,7 @@ pub words_end : (size : ℕ) (p : Predicate) (l : List ℕ) (j : ℕ) → size �
 unfolding le
 words_end size p l j h = let e : size - j * 8 ≡ 0 = omega arith in rw e
 
-words_turn : (size : ℕ) (p : Predicate) (l m : List ℕ) (j n : ℕ) → Words p → n ≡ min (size - j * 8) 8 → m ≡ sets l (j * 8) (le n (word p j))
+pub words_turn : (size : ℕ) (p : Predicate) (l m : List ℕ) (j n : ℕ) → Words p → n ≡ min (size - j * 8) 8 → m ≡ sets l (j * 8) (le n (word p j))
     → sets m ((j + 1) * 8) (bytes_from size p (j + 1)) ≡ sets l (j * 8) (bytes_from size p j)
 unfolding le
 words_turn size p l m j n ok en em =

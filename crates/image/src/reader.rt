@@ -23,7 +23,7 @@ pub fn image_reply(image: &[u8], room: usize) -> Reply
     Ok(())
 }
 
-// The state of a refused reading.
+// The state that a host in C gets beside a refused reading.
 #[tactic(auto, unfolding(crate::specs::Reading::blank))]
 pub fn blank() -> State
     ensures { result ≡ blank_state }

@@ -54,7 +54,11 @@ impl Item for Predicate {
         // By index: the words and the parts of the slice go in step.
         let n = slice.len();
         for (j, word) in self.words.iter().enumerate() {
-            let start = (j * 8).min(n);
+            let start = j * 8;
+            // A short vector's predicate has no bytes of the later words.
+            if n <= start {
+                return;
+            }
             word.put(&mut slice[start..(start + 8).min(n)]);
         }
     }

@@ -16,7 +16,10 @@ loop-j-init c = words_start _ _ _ refl
 
 pub loop-j-preserved : goal.loop-j-preserved
 loop-j-preserved c =
-    lent_turn _ _ _ _ c.loop-j.j _ _ (ok (goal.at.loop-j-preserved c).Start) c.loop-j.auto.slice c.min-start.ensures c.min.ensures c.put.ensures ∙ c.loop-j.invariant
+    lent_turn _ _ _ _ c.loop-j.j _ _ (ok (goal.at.loop-j-preserved c).Start) c.loop-j.auto.slice (omega (arith, c.if-n-start.false)) c.min.ensures c.put.ensures ∙ c.loop-j.invariant
+
+pub returns-then-n-start : goal.returns-then-n-start
+returns-then-n-start c = sym (words_end _ _ _ c.loop-j.j c.if-n-start.true) ∙ c.loop-j.invariant
 
 pub returns : goal.returns
 returns c = sym (words_end _ _ _ c.loop-j.j (omega arith)) ∙ c.loop-j.invariant
