@@ -16,7 +16,7 @@ use Rattle.machine.specs.declared.Stepped.{Stepped}
 use Rattle.machine.specs.declared.Ran.{Ran}
 use Rattle.machine.specs.Execute.{values_of, execute_of}
 
--- the refusals 2, 3 and 14 of an instruction, in this order, or `Done`; `accepted` tells whether it takes the values that it reads
+-- the refusals 2, 3 and 14 of an instruction, in this order, or 0; `accepted` tells whether it takes the values that it reads
 abbrev pub admission_of : Instruction → ℕ → Bool → Bool → Reply
 admission_of i level access accepted = pick (ltb level (level_of i)) (Err LevelTooLow) (pick access (pick accepted (Ok tt) (Err NotMonotonic)) (Err AccessOff))
 
@@ -37,7 +37,7 @@ after_word s (Ok i) =
 unfoldable pub step_of : State → ℕ → Stepped
 step_of s w = pick (legal s) (after_word s (decode_of w)) (answered (Err IllegalState) s)
 
--- the words stepped one after the other, until one is refused: `done` were executed, and `refused` is the reply to the next one, or `Done` if there is none
+-- the words stepped one after the other, until one is refused: `done` were executed, and `refused` is the reply to the next one, or 0 if there is none
 unfoldable pub steps_of : ℕ → State → List ℕ → Ran
 steps_of done s [] = record { reply = Ok tt; refused = Ok tt; done = done; state = s }
 steps_of done s (w ∷ ws) =

@@ -20,7 +20,7 @@ byte-and v m x h =
     ∙ and_block 8 (x / 256) (rep v m) (x % 256) v (mod-lt x (lit< tt)) h
 
 -- the low half of a byte
-lows_is : (m x : ℕ) → bit_and x (rep 15 m) ≡ lows m x
+pub lows_is : (m x : ℕ) → bit_and x (rep 15 m) ≡ lows m x
 unfolding rep lows
 lows_is zero x = and_zero_r x
 lows_is (suc m) x =
